@@ -1,0 +1,5 @@
+pub mod Chain
+pub mod Meaning
+pub mod Laws
+pub mod Alike
+pub mod Members
