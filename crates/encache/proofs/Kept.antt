@@ -69,10 +69,10 @@ cleared-ok chains o s k (Some l) h =
     cond-both (eqb (l .object) o && has-start s (l .item)) None (Some l) (λ n. line-ok (set chains o ys) k n ≡ true)
     (λ t. refl)
     (λ t. ⊎-elim
-      (λ e. let stays : has-start s (l .item) ≡ false = ⊎-elim (λ n. absurd (both-ways (eqb (l .object) o) n (eq-eqb (l .object) o e))) (λ n. n) (and-cases _ _ t) in
-        same-object chains o ys k l h (l .item) e (λ i. in-keep _ (l .item) (getD chains o []) i (not-from-false _ stays)))
-      (λ ne. other-object chains o ys k l h ne)
-      (cases-eq (l .object) o))
+    (λ e. let stays : has-start s (l .item) ≡ false = ⊎-elim (λ n. absurd (both-ways (eqb (l .object) o) n (eq-eqb (l .object) o e))) (λ n. n) (and-cases _ _ t) in
+    same-object chains o ys k l h (l .item) e (λ i. in-keep _ (l .item) (getD chains o []) i (not-from-false _ stays)))
+    (λ ne. other-object chains o ys k l h ne)
+    (cases-eq (l .object) o))
 
 -- a line of another place has another object
 other-line : (chains : List (List Item)) (o : ℕ) (ys : List Item) (k : ℕ) (l : Option Line) → (k ≡ o % 8 → ⊥) → line-ok chains k l ≡ true → line-ok (set chains o ys) k l ≡ true
@@ -130,15 +130,15 @@ hit-found m o p k None x sound ok e = absurd (none-some x (sym e))
 hit-found m o p k (Some l) x sound ok e =
     ⊎-elim
     (λ t. let a = and-parts _ _ t in
-      let b = and-parts _ _ (a .1) in
-      let x-is = some-same x (l .item) (e ∙ cond-true _ (Some (l .item)) None t) in
-      let inside : l .item ∈ chain-of m o = subst (λ i. l .item ∈ getD (m .chains) i []) (eqb-true (l .object) o (a .0)) (line-is (m .chains) k l ok .1) in
-      let lt = in-range (m .chains) o (l .item) inside in
-      let asc = lawful-ascends (chain-of m o) (sound .lawful o lt) in
-      let span = ascends-spanned (chain-of m o) (l .item) asc inside in
-      let from = leb-true (l .item .start) p (b .0) in
-      let to = leb-true p (l .item .«end») (b .1) in
-      (find-accepted m o p lt (omega (arith, to, span .1)), found-covering (chain-of m o) p (l .item) asc inside from to ∙ ap Some (sym x-is)))
+    let b = and-parts _ _ (a .1) in
+    let x-is = some-same x (l .item) (e ∙ cond-true _ (Some (l .item)) None t) in
+    let inside : l .item ∈ chain-of m o = subst (λ i. l .item ∈ getD (m .chains) i []) (eqb-true (l .object) o (a .0)) (line-is (m .chains) k l ok .1) in
+    let lt = in-range (m .chains) o (l .item) inside in
+    let asc = lawful-ascends (chain-of m o) (sound .lawful o lt) in
+    let span = ascends-spanned (chain-of m o) (l .item) asc inside in
+    let from = leb-true (l .item .start) p (b .0) in
+    let to = leb-true p (l .item .«end») (b .1) in
+    (find-accepted m o p lt (omega (arith, to, span .1)), found-covering (chain-of m o) p (l .item) asc inside from to ∙ ap Some (sym x-is)))
     (λ f. absurd (none-some x (sym (e ∙ cond-false _ (Some (l .item)) None f))))
     (cases-bool (eqb (l .object) o && covers p (l .item)))
 
@@ -148,8 +148,8 @@ hit-is o p None x e = absurd (none-some x (sym e))
 hit-is o p (Some l) x e =
     ⊎-elim
     (λ t. let o-is = eqb-true (l .object) o (and-parts _ _ t .0) in
-      let x-is = some-same x (l .item) (e ∙ cond-true _ (Some (l .item)) None t) in
-      λ j. Some (record { object = sym o-is j; item = x-is j }))
+    let x-is = some-same x (l .item) (e ∙ cond-true _ (Some (l .item)) None t) in
+    λ j. Some (record { object = sym o-is j; item = x-is j }))
     (λ f. absurd (none-some x (sym (e ∙ cond-false _ (Some (l .item)) None f))))
     (cases-bool (eqb (l .object) o && covers p (l .item)))
 

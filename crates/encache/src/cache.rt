@@ -2,13 +2,14 @@ ghost use mathlib.Core.List.{List};
 ghost use mathlib.Core.Path.{_≡_};
 ghost use Prim.Native.Nat.{_+_, min};
 ghost use Rattle.history.specs.declared.item.Item.{Item};
-ghost use Rattle.history.specs.Meaning.{FindAnswer, answered};
+ghost use Rattle.history.specs.Meaning.{FindAnswer, Sound, answered};
 ghost use Rattle.history.specs.Meaning.Op.{Find, Extend, Put, Seal, Drop};
 ghost use Rattle.encache.specs.Lines.{Held, Spared, line-of, lines-found, lines-by};
 ghost use Rattle.encache.specs.Layer.{Whole, Leaves};
 use crate::line::Line;
 use crate::line::cleared;
 use crate::line::extended;
+use crate::line::filled;
 use crate::line::hit;
 use crate::line::sealed_line;
 use history::item::Fault;
@@ -27,14 +28,20 @@ impl<S: Store> Encache<S> {
     pub fn over(below: S) -> Self
         ensures below { λ r. ⌜ r .below ≡ below ⌝ }
         ensures lines { λ r. ⌜ ((chains : List (List Item)) → Held chains (r .lines)) ⌝ }
+        ensures whole { λ r. ⌜ (S·Store .whole below → Sound (S·Store .means below) → Whole (S·Store .means) (S·Store .whole) r) ⌝ }
     {
-        Encache { below, lines: [None; 8] }
+        Encache {
+            below,
+            lines: [None; 8],
+        }
     }
 }
 
 pub impl<S: Store> Store for Encache<S> as EncacheStore {
     ghost means = { λ s. S·Store .means (s .below) };
+
     ghost whole = { Whole (S·Store .means) (S·Store .whole) };
+
     ghost height = { λ s. min (S·Store .height (s .below) + 1) 255 };
 
     fn level(&self) -> u8 {
@@ -57,7 +64,7 @@ pub impl<S: Store> Store for Encache<S> as EncacheStore {
         }
         match self.below.find(object, time) {
             Ok(item) => {
-                self.lines[k] = Some(Line { object, item });
+                self.lines[k] = filled(object, item);
                 Ok(item)
             }
             Err(fault) => Err(fault),

@@ -44,17 +44,25 @@ module _ (f : Item → Item) (same : (x : Item) → f x .start ≡ x .start) (p 
 module _ (xs : List Item) (new : Item) (l : Lawful xs) (after : Lawful (put-in xs new)) (q : ℕ) where
   keeps-found : (x : Item) → FoundAt xs q x → (q < new .start) ⊎ (new .start ≤ x .start) → find-in (put-in xs new) q ≡ Some x
   keeps-found x f or =
-      find-from (put-in xs new) q x (lawful-sorted (put-in xs new) after) (in-put-old xs new x (f .0), f .1, λ y i le. elim (of-put xs new y i) [
-        | inl j ↦ f .2 y j le
-        | inr e ↦ (let n = ap (λ (r : Item). r .start) e in elim or [ inl a ↦ absurd (omega arith) | inr a ↦ omega arith ])
-      ])
+      find-from (put-in xs new) q x (lawful-sorted (put-in xs new) after) (
+        in-put-old xs new x (f .0),
+        f .1,
+        λ y i le. elim (of-put xs new y i) [
+          | inl j ↦ f .2 y j le
+          | inr e ↦ (let n = ap (λ (r : Item). r .start) e in elim or [ inl a ↦ absurd (omega arith) | inr a ↦ omega arith ])
+        ],
+      )
 
   finds-new : (x : Item) → FoundAt xs q x → new .start ≤ q → x .start < new .start → find-in (put-in xs new) q ≡ Some new
   finds-new x f by lt =
-      find-from (put-in xs new) q new (lawful-sorted (put-in xs new) after) (in-put-new xs new, by, λ y i le. elim (of-put xs new y i) [
-        | inl j ↦ (let k = f .2 y j le in omega arith)
-        | inr e ↦ (let n = ap (λ (r : Item). r .start) e in omega arith)
-      ])
+      find-from (put-in xs new) q new (lawful-sorted (put-in xs new) after) (
+        in-put-new xs new,
+        by,
+        λ y i le. elim (of-put xs new y i) [
+          | inl j ↦ (let k = f .2 y j le in omega arith)
+          | inr e ↦ (let n = ap (λ (r : Item). r .start) e in omega arith)
+        ],
+      )
 
   find-put : find-in (put-in xs new) q ≡ cond (leb (new .start) q) (later new (find-in xs q)) (find-in xs q)
   find-put =
@@ -63,10 +71,10 @@ module _ (xs : List Item) (new : Item) (l : Lawful xs) (after : Lawful (put-in x
       let f = find-is xs q x (lawful-sorted xs l) (r .1) in
       subst (λ o. find-in (put-in xs new) q ≡ cond (leb (new .start) q) (later new o) o) (sym (r .1))
       (cond-both (leb (new .start) q) (later new (Some x)) (Some x) (λ o. find-in (put-in xs new) q ≡ o)
-        (λ e. cond-both (ltb (x .start) (new .start)) new x (λ z. find-in (put-in xs new) q ≡ Some z)
-          (λ t. finds-new x f (leb-true (new .start) q e) (ltb-true (x .start) (new .start) t))
-          (λ t. keeps-found x f (inr (ltb-false (x .start) (new .start) t))))
-        (λ e. keeps-found x f (inl (leb-false (new .start) q e))))
+      (λ e. cond-both (ltb (x .start) (new .start)) new x (λ z. find-in (put-in xs new) q ≡ Some z)
+      (λ t. finds-new x f (leb-true (new .start) q e) (ltb-true (x .start) (new .start) t))
+      (λ t. keeps-found x f (inr (ltb-false (x .start) (new .start) t))))
+      (λ e. keeps-found x f (inl (leb-false (new .start) q e))))
 
 -- drop
 
@@ -87,10 +95,10 @@ module _ (xs : List Item) (s : ℕ) (l : Lawful xs) (after : Lawful (drop-in xs 
       let g = find-is xs (s - 1) w sorted (u .1) in
       subst (λ o. find-in (drop-in xs s) q ≡ in-place-of s (find-in xs (s - 1)) o) (sym (r .1))
       (cond-both (has-start s x) (find-in xs (s - 1)) (Some x) (λ o. find-in (drop-in xs s) q ≡ o)
-        (λ e. let x-is = eqb-true (x .start) s e in
-          stays-found (s - 1) w g (ne-eqb (w .start) s (λ z. let k = g .1 in omega arith)) (λ y i ne le. let a = f .2 y i le in let b = eqb-false (y .start) s ne in omega-below (y .start) s b (omega arith)) (let k = g .1 in let m = f .1 in omega arith)
-          ∙ sym (u .1))
-        (λ e. stays-found q x f e (λ y i ne le. le) (f .1)))
+      (λ e. let x-is = eqb-true (x .start) s e in
+      stays-found (s - 1) w g (ne-eqb (w .start) s (λ z. let k = g .1 in omega arith)) (λ y i ne le. let a = f .2 y i le in let b = eqb-false (y .start) s ne in omega-below (y .start) s b (omega arith)) (let k = g .1 in let m = f .1 in omega arith)
+      ∙ sym (u .1))
+      (λ e. stays-found q x f e (λ y i ne le. le) (f .1)))
     where
       omega-below : (a b : ℕ) → (a ≡ b → ⊥) → a ≤ b → a ≤ b - 1
       omega-below a b ne le = omega arith

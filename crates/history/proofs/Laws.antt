@@ -115,8 +115,8 @@ ascends-put (x ∷ xs) new a sp one h =
     cond-both (ltb (new .start) (x .start)) (new ∷ (x ∷ xs)) (x ∷ put-in xs new) Ascends
     (λ e. (sp, (let q = ltb-true (new .start) (x .start) e in omega arith), a))
     (λ e. let q = ltb-false (new .start) (x .start) e in
-      let after : x .«end» < new .start = ⊎-elim (λ f. absurd (let r = leb-false (x .start) (new .start) f in omega arith)) (λ f. leb-false (new .start) (x .«end») f) (and-cases _ _ (h x here)) in
-      (a .0, beyond-put (x .«end») xs new after (a .1), ascends-put xs new (a .2) sp one (λ y i. h y (there i))))
+    let after : x .«end» < new .start = ⊎-elim (λ f. absurd (let r = leb-false (x .start) (new .start) f in omega arith)) (λ f. leb-false (new .start) (x .«end») f) (and-cases _ _ (h x here)) in
+    (a .0, beyond-put (x .«end») xs new after (a .1), ascends-put xs new (a .2) sp one (λ y i. h y (there i))))
 
 pub lawful-put : (xs : List Item) (new : Item) → Lawful xs → Spanned new → new .start ≡ new .«end» → some-item (covers (new .start)) xs ≡ false → Lawful (put-in xs new)
 lawful-put [] new a sp one h = elim a [ ]

@@ -36,7 +36,11 @@ fn next_version<S: Store>(s: &S, object: u32, place: u32) -> Option<Version>
         match item_at(s, object, k) {
             Some(item) => {
                 if item.mark == VERSION {
-                    return Some(Version { start: item.start, number: item.number, next: k + 1 });
+                    return Some(Version {
+                        start: item.start,
+                        number: item.number,
+                        next: k + 1,
+                    });
                 }
             }
             None => return None,

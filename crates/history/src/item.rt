@@ -7,6 +7,7 @@ pub const TIME_LIMIT: u64 = 0x8000_0000_0000_0000;
 
 // The mark of a version, and the greatest mark of a token.
 pub const VERSION: u8 = 0;
+
 pub const LAST_MARK: u8 = 64;
 
 // One entry of an object's history: from pseudo-time start to end the object has this number.
@@ -25,7 +26,10 @@ impl Item {
         ensures { λ r. ⌜ r ≡ extends start time self ⌝ }
     {
         if self.start == start {
-            Item { end: self.end.max(time), ..self }
+            Item {
+                end: self.end.max(time),
+                ..self
+            }
         } else {
             self
         }
@@ -36,7 +40,10 @@ impl Item {
         ensures { λ r. ⌜ r ≡ seals start self ⌝ }
     {
         if self.start == start {
-            Item { mark: VERSION, ..self }
+            Item {
+                mark: VERSION,
+                ..self
+            }
         } else {
             self
         }

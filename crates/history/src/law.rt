@@ -4,5 +4,4 @@ ghost use Rattle.history.specs.Laws.{HistoriesStand};
 // in which every find answers what the finds before the operation tell.
 pub fn histories_stand()
     ensures { λ _. ⌜ HistoriesStand ⌝ }
-{
-}
+{}

@@ -51,6 +51,17 @@ impl Classroom {
     }
 }
 
+impl Place {
+    // The place of a teacher from 1 to 9,999 in a classroom from 1 to 999.
+    pub fn held(teacher: u16, classroom: u16) -> Option<Self>
+        ensures { λ r. ⌜ Cases r (((1 ≤ teacher) × (teacher ≤ 9999) × (1 ≤ classroom) × (classroom ≤ 999)) → ⊥) (λ p. place-form p ≡ teacher * 1000 + classroom) ⌝ }
+    {
+        let teacher = Teacher::new(teacher)?;
+        let classroom = Classroom::new(classroom)?;
+        Some(Place::Held { teacher, classroom })
+    }
+}
+
 pub impl Kind for Place as PlaceKind {
     const GREATEST: u64 = 9_999_999;
 

@@ -11,13 +11,20 @@ use history::item::Fault;
 use history::item::Item;
 use history::store::Store;
 
+const OBJECTS: u32 = 32;
+
 // The level of a store that lies on no other.
 const BOTTOM: u8 = 0;
 
 fn fault(cause: Cause, object: u32, time: u64) -> Fault
     ensures { λ r. ⌜ r ≡ bottom-fault cause object time ⌝ }
 {
-    Fault { cause, object, time, level: BOTTOM }
+    Fault {
+        cause,
+        object,
+        time,
+        level: BOTTOM,
+    }
 }
 
 impl Rows {
@@ -25,13 +32,15 @@ impl Rows {
     pub fn starting(number: u64) -> Rows
         ensures { λ r. ⌜ rows-means r .chains ≡ replicate 32 (fresh-item 0 0 number ∷ []) ⌝ }
     {
-        Rows { rows: [Row::starting(number); 32] }
+        Rows {
+            rows: [Row::starting(number); 32],
+        }
     }
 
     fn row(&self, object: u32, time: u64) -> Result<Row, Fault>
         ensures { λ r. ⌜ RowOf (now (self .entry)) object time r ⌝ }
     {
-        if object >= 32 {
+        if object >= OBJECTS {
             return Err(fault(Cause::NoObject, object, time));
         }
         Ok(self.rows[object as usize])
@@ -53,7 +62,9 @@ impl Rows {
 
 pub impl Store for Rows as RowsStore {
     ghost means = { rows-means };
+
     ghost whole = { λ _. Unit {0} };
+
     ghost height = { λ _. 0 };
 
     fn level(&self) -> u8 {
@@ -61,7 +72,7 @@ pub impl Store for Rows as RowsStore {
     }
 
     fn objects(&self) -> u32 {
-        32
+        OBJECTS
     }
 
     fn find(&mut self, object: u32, time: u64) -> Result<Item, Fault> {

@@ -1,5 +1,7 @@
 use mathlib.Core.Path.{refl, sym, ap, subst, _∙_}
 use native.Mathlib.Omega.{arith}
+use Prim.Native.Nat.{_%_}
+use lib.ListN.{set}
 use Rattle.std.specs.declared.result.Result.the-variants.{Ok}
 use Rattle.history.proofs.Chains.{some-same}
 use Rattle.history.proofs.Outcomes.{find-outcome, find-leaves}
@@ -20,11 +22,13 @@ returns-in-Some g c =
 pub returns-in-Ok : need.returns-in-Ok
 returns-in-Ok g c =
     let done = c .in-Ok .ensures tt in
+    let lines = c .args .self .now .lines in
+    let now-is = ap (set lines (c .args .object % 8)) (c .filled .ensures) in
     record {
       answer = λ w. done .answer (w .0);
       after = λ w. let out = done .after (w .0) in
-        (out .0, (out .1, out .0 .sound .1, held-found _ _ (c .args .self .now .lines) (c .args .object) (c .args .time) _ (omega arith) (w .2) (out .0) (done .answer (w .0) .1)));
-      lines = refl;
+          (out .0, (out .1, out .0 .sound .1, subst (Held _) (sym now-is) (held-found _ _ lines (c .args .object) (c .args .time) _ (omega arith) (w .2) (out .0) (done .answer (w .0) .1))));
+      lines = now-is;
       spared = λ x e. absurd (c .in-rest .not-Some x (c .hit .ensures ∙ e));
     }
 
@@ -34,7 +38,7 @@ returns-in-Err g c =
     record {
       answer = λ w. done .answer (w .0);
       after = λ w. let out = done .after (w .0) in
-        (out .0, (out .1, out .0 .sound .1, subst (λ cs. Held cs (c .args .self .now .lines)) (sym (find-leaves _ _ _ _ (out .0))) (w .2)));
+          (out .0, (out .1, out .0 .sound .1, subst (λ cs. Held cs (c .args .self .now .lines)) (sym (find-leaves _ _ _ _ (out .0))) (w .2)));
       lines = refl;
       spared = λ x e. absurd (c .in-rest .not-Some x (c .hit .ensures ∙ e));
     }

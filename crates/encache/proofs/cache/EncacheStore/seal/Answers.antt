@@ -15,7 +15,7 @@ returns-in-Ok g c =
     record {
       answer = λ w. done .answer (w .0);
       after = λ w. let out = done .after (w .0) in
-        (out .0, (out .1, out .0 .sound .1, subst (Held _) (sym now-is) (held-accepted _ _ lines (c .args .object) (w .2) (Seal (c .args .start)) (omega arith) (out .0) (done .answer (w .0)))));
+          (out .0, (out .1, out .0 .sound .1, subst (Held _) (sym now-is) (held-accepted _ _ lines (c .args .object) (w .2) (Seal (c .args .start)) (omega arith) (out .0) (done .answer (w .0)))));
       lines = now-is;
     }
 
@@ -25,6 +25,6 @@ returns-in-Err g c =
     record {
       answer = λ w. done .answer (w .0);
       after = λ w. let out = done .after (w .0) in
-        (out .0, (out .1, out .0 .sound .1, held-refused _ _ (c .args .self .now .lines) (c .args .object) (w .2) (Seal (c .args .start)) _ (out .0) (done .answer (w .0))));
+          (out .0, (out .1, out .0 .sound .1, held-refused _ _ (c .args .self .now .lines) (c .args .object) (w .2) (Seal (c .args .start)) _ (out .0) (done .answer (w .0))));
       lines = refl;
     }

@@ -1,0 +1,10 @@
+mod Meanings
+mod Edited
+mod Seeks
+mod Splits
+mod Moves
+mod Openings
+mod Stands
+mod Walks
+mod Causes
+mod Soundness

@@ -1,0 +1,4 @@
+pub mod Edits
+pub mod Means
+pub mod Plans
+pub mod Laws

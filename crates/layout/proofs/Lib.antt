@@ -1,0 +1,13 @@
+pub mod Fields
+pub mod Parts
+pub mod Runs
+pub mod Reading
+pub mod Ascending
+pub mod Magic
+pub mod Rows
+pub mod Represents
+pub mod LaidOut
+pub mod Edit
+pub mod Histories
+pub mod Totals
+pub mod Ticks

@@ -1,0 +1,12 @@
+use mathlib.Core.Path.{sym, subst}
+use native.Mathlib.Omega.{arith}
+use Rattle.layout.specs.Edits.{Changed}
+use Rattle.layout.proofs.Edit.{has-parts, end-put}
+use Rattle.layout.proofs.record.set_end.Needs as need
+
+pub returns : need.returns
+returns c =
+    record {
+      bytes = c .put-u64 .ensures;
+      change = λ h. let p = has-parts _ _ h in subst (Changed _ _ _ _) (sym (c .put-u64 .ensures)) (end-put (c .args .bytes .now) (c .args .k) (p .0) (p .1) (c .args .«end») (omega arith));
+    }

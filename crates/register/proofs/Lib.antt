@@ -1,0 +1,9 @@
+pub mod Leaves
+pub mod Chains
+pub mod Checks
+pub mod Settles
+pub mod Stores
+pub mod Meets
+pub mod Looks
+pub mod Walks
+pub mod Starts

@@ -1,0 +1,15 @@
+pub mod Invariant
+pub mod Table
+pub mod Law
+pub mod Moves
+pub mod Adds
+pub mod Ends
+pub mod Good
+pub mod Short
+pub mod Updates
+pub mod Tokens
+pub mod Settles
+pub mod Looks
+pub mod Unfit
+pub mod Theorem
+pub mod Opens
