@@ -1,4 +1,6 @@
 // A store of object histories over the caller's bytes.
+#![tactic(auto)]
+
 mod chain;
 mod edit;
 pub mod law;

@@ -1,4 +1,6 @@
 // Damaged images of a small table: a store opens just those that an independent decision calls lawful.
+#![tactic(auto)]
+
 mod decision;
 mod image;
 

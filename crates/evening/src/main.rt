@@ -1,4 +1,6 @@
 // One evening: panels change the lines of a table and read them, with every step told.
+#![tactic(auto)]
+
 mod hall;
 mod keeping;
 mod reading;

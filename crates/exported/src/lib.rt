@@ -1,4 +1,6 @@
 // The player's function for callers in other languages.
+#![tactic(auto)]
+
 ghost use Rattle.exported.specs.Told.{Answers};
 
 use playing::play::play;

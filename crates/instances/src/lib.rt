@@ -1,4 +1,6 @@
 // The serial order at stores and kinds that the box uses.
+#![tactic(auto)]
+
 ghost use Rattle.rows.specs.Tabled.{rows_means};
 ghost use Rattle.chained.specs.Means.{meaning};
 ghost use Rattle.encache.specs.Layer.{Whole};

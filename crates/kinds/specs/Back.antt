@@ -1,5 +1,5 @@
 -- Forms read back, and nothing else is read.
-use Rattle.std.specs.Prelude.{◌≡◌, ℕ, ◌+◌, ◌-◌, ◌*◌, ◌/◌, ◌%◌, ◌<◌, ◌≤◌, Bool, true, false, cond, ◌&&◌, ℤ, pos, negsuc, ◌≤ℤ◌, Some, None, Option, ◌==◌, ◌≢◌, nat_le, refl}
+use Rattle.std.specs.Prelude.{◌≡◌, ℕ, ◌+◌, ◌-◌, ◌*◌, ◌/◌, ◌%◌, ◌<◌, ◌≤◌, Bool, true, false, cond, ◌&&◌, ℤ, pos, negsuc, ◌≤ℤ◌, Some, None, Option, ◌==◌, ◌≢◌, nat_le, is_some, refl}
 use Rattle.std.proofs.Common.{ap, sym, subst, ◌∙◌, arith}
 use mathlib.Core.HLevel.{is_prop→PathP}
 use denote.Struct.Props.{props}
@@ -70,6 +70,12 @@ seats_only n v e =
     let q = some_is _ v p.1 in
     sym (form_value n (leb-true n 65535 p.0)) ∙ ap (λ (w : Seats). seats_form w.value) q
 
+pub seats_bounded : (v : Seats) → seats_form v.value ≤ 65535
+seats_bounded v = (value_form v.value v.fits.0 v.fits.1).0
+
+pub seats_attained : is_some (seats_parse 65535) ≡ true
+seats_attained = refl
+
 pub seats_none : (n : ℕ) → 65535 < n → seats_parse n ≡ None
 seats_none n lt = given_none (nat_le n 65535) _ (lt-leb n 65535 lt)
 
@@ -126,6 +132,13 @@ place_only n v e = go (n == 0) refl
         let p = given_is (is_held n) _ v (sym (held_parse n q) ∙ e) in
         let s : n ≡ n / 1000 * 1000 + n % 1000 = omega arith in
         s ∙ ap place_form (some_is _ v p.1)
+
+pub place_bounded : (v : Place) → place_form v ≤ 9999999
+place_bounded Vacant = omega arith
+place_bounded (Held t c) = let th = t.ok.1 in let ch = c.ok.1 in omega arith
+
+pub place_attained : is_some (place_parse 9999999) ≡ true
+place_attained = refl
 
 pub place_read : (n : ℕ) (v : Place) → place_form v ≡ n → Some v ≡ place_parse n
 place_read n v e = sym (place_back v) ∙ ap place_parse e

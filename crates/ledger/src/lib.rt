@@ -1,5 +1,7 @@
 // Timestamps, commit records and tickets, the calls on a register with their answers and refusals,
 // and the ledger: the commit records with the sites' clocks.
+#![tactic(auto)]
+
 pub mod answer;
 pub mod call;
 pub mod ledger;

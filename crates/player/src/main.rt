@@ -1,4 +1,6 @@
 // Script lines in, answers out.
+#![tactic(auto)]
+
 use playing::play::play;
 use std::io::{Read, Write};
 

@@ -1,3 +1,5 @@
 // A script played on a register over bytes.
+#![tactic(auto)]
+
 pub mod play;
 mod turn;

@@ -1,4 +1,6 @@
 // What every history of calls on a register shows: a serial order by creation.
+#![tactic(auto)]
+
 ghost use Rattle.std.specs.Prelude.{◌≡◌, ℕ};
 ghost use Rattle.history.specs.Meaning.{Meaning};
 ghost use Rattle.register.specs.Start.{started};

@@ -1,7 +1,6 @@
 ghost use Rattle.std.specs.Prelude.{◌≡◌, ℕ, ◌+◌, ◌*◌, ◌^◌, ◌<◌, ◌≤◌, MatchOption};
 ghost use Rattle.kinds.specs.Forms.{place_form, place_parse};
-ghost use Rattle.kinds.specs.Back.{place_back, place_only};
-ghost use Rattle.std.proofs.Common.{rules};
+ghost use Rattle.kinds.specs.Back.{place_back, place_only, place_bounded, place_attained};
 
 use crate::kind::Kind;
 use crate::place::{Classroom, Place, Teacher};
@@ -70,13 +69,13 @@ impl Kind for Place {
 
     ghost greatest = { 9999999 };
 
-    ghost reads_back = { λ v. place_back v };
+    ghost reads_back = { place_back };
 
-    ghost only_forms = { λ n v e. place_only n v e };
+    ghost only_forms = { place_only };
 
-    ghost bounded = { Prim.search rules };
+    ghost bounded = { place_bounded };
 
-    ghost attained = { Prim.search rules };
+    ghost attained = { place_attained };
 
     fn greatest_form() -> u64 {
         Self::GREATEST

@@ -1,6 +1,5 @@
 ghost use Rattle.kinds.specs.Forms.{seats_form, seats_parse};
-ghost use Rattle.kinds.specs.Back.{seats_back, seats_only};
-ghost use Rattle.std.proofs.Common.{rules, arith};
+ghost use Rattle.kinds.specs.Back.{seats_back, seats_only, seats_bounded, seats_attained};
 
 use crate::kind::Kind;
 use crate::seats::Seats;
@@ -14,13 +13,13 @@ impl Kind for Seats {
 
     ghost greatest = { 65535 };
 
-    ghost reads_back = { λ v. seats_back v };
+    ghost reads_back = { seats_back };
 
-    ghost only_forms = { λ n v e. seats_only n v e };
+    ghost only_forms = { seats_only };
 
-    ghost bounded = { first_of (Prim.search rules, Prim.grind (arith, Self.row.coded.inj)) };
+    ghost bounded = { seats_bounded };
 
-    ghost attained = { first_of (Prim.search rules, Prim.grind (arith, Self.row.coded.inj)) };
+    ghost attained = { seats_attained };
 
     fn greatest_form() -> u64 {
         Self::GREATEST
