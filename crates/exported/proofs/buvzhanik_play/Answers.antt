@@ -7,7 +7,7 @@ returns c =
     let v = c.in-Ok.answers in
     let before = c.args.output.now in
     let n = c.min-count.result - 0 in
-    let front = c.copy-from-slice.ensures.after ∙ ap (take n) c.deref.ensures.value in
+    let front = c.copy_from_slice.ensures.after ∙ ap (take n) c.deref.ensures.value in
     let count = sub-zero c.min-count.result ∙ c.min-count.ensures ∙ ap (λ k. min k (length before)) (c.len.ensures ∙ sym c.len-2.ensures) in
     inl (record {
       answers = vec_items v;

@@ -25,4 +25,4 @@ loop-record-preserved c =
 
 pub returns : goal.returns
 returns c =
-    sym (ap (last_by c.args.bytes.now c.args.time c.loop-record.last) (stop _ _ c.requires.size c.loop-record.invariant.0 c.in-default.ensures)) ∙ c.loop-record.invariant.1
+    sym (ap (last_by c.args.bytes.now c.args.time c.loop-record.last) (stop _ _ c.requires.size c.loop-record.invariant.0 c.in_default.ensures)) ∙ c.loop-record.invariant.1

@@ -20,4 +20,4 @@ loop-record-preserved c =
 
 pub returns : goal.returns
 returns c =
-    sym (ap (λ ns. nth_item (map (item_at c.args.bytes.now) ns) c.loop-record.left) (stop _ _ c.requires.size c.loop-record.invariant.0 c.in-default.ensures)) ∙ c.loop-record.invariant.1
+    sym (ap (λ ns. nth_item (map (item_at c.args.bytes.now) ns) c.loop-record.left) (stop _ _ c.requires.size c.loop-record.invariant.0 c.in_default.ensures)) ∙ c.loop-record.invariant.1

@@ -8,10 +8,10 @@ use Rattle.layout.proofs.lawful.is_lawful.Goals as goal
 ruled : (xs : List Item) → Decides (history xs) (Lawful xs)
 ruled xs = (history_parts xs, history_from xs)
 
-pub returns-then-blanks-from : goal.returns-then-blanks-from
+pub returns-then-blanks_from : goal.returns-then-blanks_from
 unfolding lawful
-returns-then-blanks-from c = record { answer = search rules; rules = ruled }
+returns-then-blanks_from c = record { answer = search rules; rules = ruled }
 
-pub returns-else-blanks-from : goal.returns-else-blanks-from
+pub returns-else-blanks_from : goal.returns-else-blanks_from
 unfolding lawful
-returns-else-blanks-from c = record { answer = search rules; rules = ruled }
+returns-else-blanks_from c = record { answer = search rules; rules = ruled }

@@ -3,10 +3,10 @@ use Rattle.layout.proofs.Reading.{Read, read_some, read_none}
 use Rattle.layout.proofs.Ticks.{passed_more, passed_all, passed_out, unmarked_less}
 use Rattle.layout.proofs.marks.mark_from.Goals as goal
 
-pub returns-in-default : goal.returns-in-default
-returns-in-default c =
+pub returns-in_default : goal.returns-in_default
+returns-in_default c =
     passed_out _ _ _ _ c.loop-k.seen c.loop-k.invariant c.loop-k-test.true
-    (λ l. ⊎_elim (λ z. absurd (c.loop-k-test.true z)) (λ h. absurd (omega arith)) (read_none _ _ c.in-default.ensures))
+    (λ l. ⊎_elim (λ z. absurd (c.loop-k-test.true z)) (λ h. absurd (omega arith)) (read_none _ _ c.in_default.ensures))
 
 pub returns-then-seen-k : goal.returns-then-seen-k
 returns-then-seen-k c = passed_out _ _ _ _ c.loop-k.seen c.loop-k.invariant c.loop-k-test.true (λ _. c.if-seen-k.true)

@@ -6,6 +6,6 @@ use Rattle.layout.proofs.record.set_mark.Goals as goal
 pub returns : goal.returns
 returns c =
     record {
-      bytes = c.put-u8.ensures;
-      change = λ h. let p = has_parts _ _ h in subst (Changed _ _ _ _) (sym c.put-u8.ensures) (mark_put c.args.bytes.now c.args.k p.0 p.1 c.args.mark (omega arith));
+      bytes = c.put_u8.ensures;
+      change = λ h. let p = has_parts _ _ h in subst (Changed _ _ _ _) (sym c.put_u8.ensures) (mark_put c.args.bytes.now c.args.k p.0 p.1 c.args.mark (omega arith));
     }

@@ -6,6 +6,6 @@ use Rattle.layout.proofs.record.set_next.Goals as goal
 pub returns : goal.returns
 returns c =
     record {
-      bytes = c.put-u16.ensures;
-      change = λ h. let p = has_parts _ _ h in subst (Changed _ _ _ _) (sym c.put-u16.ensures) (next_put c.args.bytes.now c.args.k p.0 p.1 c.args.next (omega arith));
+      bytes = c.put_u16.ensures;
+      change = λ h. let p = has_parts _ _ h in subst (Changed _ _ _ _) (sym c.put_u16.ensures) (next_put c.args.bytes.now c.args.k p.0 p.1 c.args.next (omega arith));
     }

@@ -11,5 +11,5 @@ in_bytes bs = refl
 
 pub returns : goal.returns
 returns c =
-    subst (λ (m : Meaning). IfOk c.play-over.result (λ v. Played meaning 1 m c.args.script.now (vec_items v))) (ap meaning (c.new.ensures.bytes ∙ c.lay-out.ensures.bytes))
-    (c.play-over.ensures meaning (λ s. in_bytes s.table.bytes.now) tt c.new.ensures.sound)
+    subst (λ (m : Meaning). IfOk c.play_over.result (λ v. Played meaning 1 m c.args.script.now (vec_items v))) (ap meaning (c.new.ensures.bytes ∙ c.lay_out.ensures.bytes))
+    (c.play_over.ensures meaning (λ s. in_bytes s.table.bytes.now) tt c.new.ensures.sound)

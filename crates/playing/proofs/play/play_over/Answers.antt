@@ -14,6 +14,6 @@ returns g c by inside whole sound =
     let script = c.args.script.now in
     subst (λ (n : Meaning). IfOk c.run.result (λ v. Played by 1 n script (vec_items v))) (ap means c.over.ensures.below)
     (IfOk-weaker c.run.result _ (λ v. Played by 1 m script (vec_items v))
-    (λ v runs. played (λ s. means s.below) (Whole means g.S.Store.whole) by (λ s. inside s.below) 1 m (c.serial-law.ensures 1 m)
+    (λ v runs. played (λ s. means s.below) (Whole means g.S.Store.whole) by (λ s. inside s.below) 1 m (c.serial_law.ensures 1 m)
     c.open-register.result c.run.new.register (c.open-register.ensures.starts pile) (c.open-register.ensures.opens pile).reaches script (vec_items v) runs)
     c.run.ensures)

@@ -4,4 +4,4 @@ use Rattle.script.specs.Format.{call_of}
 use Rattle.script.proofs.reading.call_of.Goals as goal
 
 pub returns : goal.returns
-returns c = c.call-by.ensures ∙ ap call_of (sym (first_rest c.args.line.now 0 (search rules)))
+returns c = c.call_by.ensures ∙ ap call_of (sym (first_rest c.args.line.now 0 (search rules)))

@@ -15,8 +15,8 @@ returns-then-object-self c =
       sound = λ _. sound c.args.self.now.table.bytes.now;
     }
 
-pub nth-from-requires : goal.nth-from-requires
-nth-from-requires c =
+pub nth_from-requires : goal.nth_from-requires
+nth_from-requires c =
     let s = serves c.args.self.now.table.bytes.now c.args.object (omega (arith, c.args.self.now.lawful)) in
     record { size = s.header.size; chain = s.whole }
 
@@ -25,7 +25,7 @@ returns c =
     let s = serves c.args.self.now.table.bytes.now c.args.object (omega (arith, c.args.self.now.lawful)) in
     record {
       answer = λ _.
-          ap Ok (c.nth-from.ensures ∙ ap (λ xs. nth_item xs c.args.place) (sym s.chain))
+          ap Ok (c.nth_from.ensures ∙ ap (λ xs. nth_item xs c.args.place) (sym s.chain))
           ∙ accepted_answer (meaning c.args.self.now.table.bytes.now) c.args.object At _ (cause_at c.args.self.now.table.bytes.now c.args.object At (omega (arith, c.args.self.now.lawful)));
       sound = λ _. sound c.args.self.now.table.bytes.now;
     }

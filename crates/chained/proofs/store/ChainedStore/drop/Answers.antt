@@ -3,8 +3,8 @@ use Rattle.history.specs.Meaning.Op.{Drop}
 use Rattle.chained.proofs.Soundness.{of_chain, dropped, refused}
 use Rattle.chained.proofs.store.ChainedStore.drop.Goals as goal
 
-pub invariant-of-self : goal.invariant-of-self
-invariant-of-self c = (c.args.self.now.lawful ∙ (dropped c.args.self.now.table.bytes.now c.remove.new.self.bytes.now c.args.object c.args.start c.in-Ok.last c.in-Ok.k c.in-Ok.ensures c.remove.ensures).served, tt)
+pub invariant_of-self : goal.invariant_of-self
+invariant_of-self c = (c.args.self.now.lawful ∙ (dropped c.args.self.now.table.bytes.now c.remove.new.self.bytes.now c.args.object c.args.start c.in-Ok.last c.in-Ok.k c.in-Ok.ensures c.remove.ensures).served, tt)
 
 pub returns-in-Ok : goal.returns-in-Ok
 returns-in-Ok c =

@@ -3,12 +3,12 @@ use Rattle.history.specs.Meaning.Op.{Extend}
 use Rattle.chained.proofs.Soundness.{of_chain, extended, refused}
 use Rattle.chained.proofs.store.ChainedStore.extend.Goals as goal
 
-pub invariant-of-self : goal.invariant-of-self
-invariant-of-self c = (c.args.self.now.lawful ∙ (extended c.args.self.now.table.bytes.now c.set-end.new.self.bytes.now c.args.object c.args.start c.args.time c.in-Ok.k c.in-Ok.«end» c.in-Ok.ensures c.set-end.ensures).served, tt)
+pub invariant_of-self : goal.invariant_of-self
+invariant_of-self c = (c.args.self.now.lawful ∙ (extended c.args.self.now.table.bytes.now c.set_end.new.self.bytes.now c.args.object c.args.start c.args.time c.in-Ok.k c.in-Ok.«end» c.in-Ok.ensures c.set_end.ensures).served, tt)
 
 pub returns-in-Ok : goal.returns-in-Ok
 returns-in-Ok c =
-    let d = extended c.args.self.now.table.bytes.now c.set-end.new.self.bytes.now c.args.object c.args.start c.args.time c.in-Ok.k c.in-Ok.«end» c.in-Ok.ensures c.set-end.ensures in
+    let d = extended c.args.self.now.table.bytes.now c.set_end.new.self.bytes.now c.args.object c.args.start c.args.time c.in-Ok.k c.in-Ok.«end» c.in-Ok.ensures c.set_end.ensures in
     record { answer = λ _. d.answer; after = λ w. (d.after, w) }
 
 pub returns-in-Err : goal.returns-in-Err

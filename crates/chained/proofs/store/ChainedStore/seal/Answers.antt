@@ -3,12 +3,12 @@ use Rattle.history.specs.Meaning.Op.{Seal}
 use Rattle.chained.proofs.Soundness.{of_chain, sealed, refused}
 use Rattle.chained.proofs.store.ChainedStore.seal.Goals as goal
 
-pub invariant-of-self : goal.invariant-of-self
-invariant-of-self c = (c.args.self.now.lawful ∙ (sealed c.args.self.now.table.bytes.now c.set-mark.new.self.bytes.now c.args.object c.args.start c.in-Ok.place.at c.in-Ok.ensures.0 c.in-Ok.ensures.1.0 c.set-mark.ensures).served, tt)
+pub invariant_of-self : goal.invariant_of-self
+invariant_of-self c = (c.args.self.now.lawful ∙ (sealed c.args.self.now.table.bytes.now c.set_mark.new.self.bytes.now c.args.object c.args.start c.in-Ok.place.at c.in-Ok.ensures.0 c.in-Ok.ensures.1.0 c.set_mark.ensures).served, tt)
 
 pub returns-in-Ok : goal.returns-in-Ok
 returns-in-Ok c =
-    let d = sealed c.args.self.now.table.bytes.now c.set-mark.new.self.bytes.now c.args.object c.args.start c.in-Ok.place.at c.in-Ok.ensures.0 c.in-Ok.ensures.1.0 c.set-mark.ensures in
+    let d = sealed c.args.self.now.table.bytes.now c.set_mark.new.self.bytes.now c.args.object c.args.start c.in-Ok.place.at c.in-Ok.ensures.0 c.in-Ok.ensures.1.0 c.set_mark.ensures in
     record { answer = λ _. d.answer; after = λ w. (d.after, w) }
 
 pub returns-in-Err : goal.returns-in-Err

@@ -4,4 +4,4 @@ use Rattle.chained.proofs.Soundness.{reopens}
 use Rattle.chained.proofs.table.Chained.into_bytes.Goals as goal
 
 pub returns : goal.returns
-returns c = let bs = c.args.self.table.bytes.now in subst (Reopens (meaning bs)) (sym c.into-bytes.ensures) (reopens bs)
+returns c = let bs = c.args.self.table.bytes.now in subst (Reopens (meaning bs)) (sym c.into_bytes.ensures) (reopens bs)

@@ -9,16 +9,16 @@ use Rattle.chained.proofs.table.Chained.place.Goals as goal
 pub returns-then-object-self : goal.returns-then-object-self
 returns-then-object-self c = no_object c.args.self.now.table.bytes.now c.args.object (Find c.args.time) (omega (arith, c.args.self.now.lawful))
 
-pub returns-then-time-ge-TIME-LIMIT : goal.returns-then-time-ge-TIME-LIMIT
-returns-then-time-ge-TIME-LIMIT c = find_late c.args.self.now.table.bytes.now c.args.object c.args.time (omega (arith, c.args.self.now.lawful)) (omega arith)
+pub returns-then-time-ge-TIME_LIMIT : goal.returns-then-time-ge-TIME_LIMIT
+returns-then-time-ge-TIME_LIMIT c = find_late c.args.self.now.table.bytes.now c.args.object c.args.time (omega (arith, c.args.self.now.lawful)) (omega arith)
 
-pub last-by-at-requires : goal.last-by-at-requires
-last-by-at-requires c =
+pub last_by-at-requires : goal.last_by-at-requires
+last_by-at-requires c =
     let s = serves c.args.self.now.table.bytes.now c.args.object (omega (arith, c.args.self.now.lawful)) in
     record { size = s.header.size; chain = s.whole }
 
 pub returns : goal.returns
 returns c = (
   find_clear c.args.self.now.table.bytes.now c.args.object c.args.time (omega (arith, c.args.self.now.lawful)) (omega arith),
-  (c.last-by-at.ensures, c.item-at.ensures ∙ ap (item_at c.args.self.now.table.bytes.now) c.last-by-at.ensures),
+  (c.last_by-at.ensures, c.item_at.ensures ∙ ap (item_at c.args.self.now.table.bytes.now) c.last_by-at.ensures),
 )

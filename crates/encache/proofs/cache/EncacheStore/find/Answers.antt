@@ -25,7 +25,7 @@ returns-in-Ok g c =
       after = λ w. let out = done.after w.0 in
           (out.0, (out.1, out.0.sound.1, subst (Held _) (sym now-is) (held_found _ _ lines c.args.object c.args.time _ (omega arith) w.2 out.0 (done.answer w.0).1)));
       lines = now-is;
-      spared = λ x e. absurd (c.in-default.not-Some x (c.hit.ensures ∙ e));
+      spared = λ x e. absurd (c.in_default.not-Some x (c.hit.ensures ∙ e));
     }
 
 pub returns-in-Err : goal.returns-in-Err
@@ -36,5 +36,5 @@ returns-in-Err g c =
       after = λ w. let out = done.after w.0 in
           (out.0, (out.1, out.0.sound.1, subst (λ cs. Held cs c.args.self.now.lines) (sym (find_leaves _ _ _ _ out.0)) w.2));
       lines = refl;
-      spared = λ x e. absurd (c.in-default.not-Some x (c.hit.ensures ∙ e));
+      spared = λ x e. absurd (c.in_default.not-Some x (c.hit.ensures ∙ e));
     }

@@ -8,7 +8,7 @@ pub returns-in-Ok : goal.returns-in-Ok
 returns-in-Ok g c =
     let done = c.in-Ok.ensures in
     let lines = c.args.self.now.lines in
-    let now-is = ap (set lines (c.args.object % 8)) c.sealed-line.ensures in
+    let now-is = ap (set lines (c.args.object % 8)) c.sealed_line.ensures in
     record {
       answer = λ w. done.answer w.0;
       after = λ w. let out = done.after w.0 in

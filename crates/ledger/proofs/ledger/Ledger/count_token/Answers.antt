@@ -11,7 +11,7 @@ pub write-requires : goal.write-requires
 write-requires c =
     let p = first_none _ _ (first_none _ _ c.requires).0 in
     let q = record_range c.args.ticket.0 p.0 in
-    let h : clock_at c.set-clock.new.self.clocks (site_of c.args.ticket.1) ≡ clock_at c.args.self.now.clocks (site_of c.args.ticket.1) + 1 = cc in
-    let fits = charged_fits c.args.self.now.records c.args.self.now.clocks c.set-clock.new.self.clocks c.args.ticket.0 c.args.ticket.1 c.args.self.now.counted p.1 h in
+    let h : clock_at c.set_clock.new.self.clocks (site_of c.args.ticket.1) ≡ clock_at c.args.self.now.clocks (site_of c.args.ticket.1) + 1 = cc in
+    let fits = charged_fits c.args.self.now.records c.args.self.now.clocks c.set_clock.new.self.clocks c.args.ticket.0 c.args.ticket.1 c.args.self.now.counted p.1 h in
     let e : c.match-record.record ≡ one_token_more (record_at c.args.self.now.records c.args.ticket.0) = elim c.match-record.branch [ in-Unused w ↦ search rules | in-Used w ↦ search rules ] in
     record { range = q; counted = rw e fits }

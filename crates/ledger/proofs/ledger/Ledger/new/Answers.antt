@@ -10,5 +10,5 @@ empty zero k = refl
 empty (suc n) zero = refl
 empty (suc n) (suc k) = empty n k
 
-pub invariant-of-result : goal.invariant-of-result
-invariant-of-result c = (λ k. (rw (empty 64 k) zero-le), tt)
+pub invariant_of-result : goal.invariant_of-result
+invariant_of-result c = (λ k. (rw (empty 64 k) zero-le), tt)

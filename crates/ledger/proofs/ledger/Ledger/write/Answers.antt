@@ -1,5 +1,5 @@
 use Rattle.ledger.proofs.Counts.{counted_written}
 use Rattle.ledger.proofs.ledger.Ledger.write.Goals as goal
 
-pub invariant-of-self : goal.invariant-of-self
-invariant-of-self c = (counted_written _ _ _ _ c.args.self.now.counted c.requires.counted, tt)
+pub invariant_of-self : goal.invariant_of-self
+invariant_of-self c = (counted_written _ _ _ _ c.args.self.now.counted c.requires.counted, tt)

@@ -14,7 +14,7 @@ returns g c w =
     let s = view g.S.Store.means c.args.self.now in
     let k = ticket_check s.records s.clocks c.args.ticket in
     let e = c.conclude.ensures in (
-      step_of g.V.Kind.form g.V.Kind.parse s (Abort c.args.ticket) k _ refl _ _ (checked_ok _ _ _ c.in-ok-check-fit.ensures).0
+      step_of g.V.Kind.form g.V.Kind.parse s (Abort c.args.ticket) k _ refl _ _ (checked_ok _ _ _ c.in_ok-check_fit.ensures).0
           (ledger_ends s _ done tt (change_record (concluded EventAbort) s.records c.args.ticket.0) s.clocks (λ _. refl) k c.conclude.result e.answer refl e.records (e.clocks ∙ sym (left_same k _)) refl),
       w,
       λ h. h,

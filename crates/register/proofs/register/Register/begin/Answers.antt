@@ -14,7 +14,7 @@ returns g c w =
     let site = c.args.site in
     let k = begin_check s.records s.clocks c.args.number site c.args.lifetime in
     let e = c.begin.ensures in (
-      step_of g.V.Kind.form g.V.Kind.parse s (Begin c.args.number site c.args.lifetime) k _ refl _ _ (checked_ok _ _ _ c.in-ok-check-fit.ensures).0
+      step_of g.V.Kind.form g.V.Kind.parse s (Begin c.args.number site c.args.lifetime) k _ refl _ _ (checked_ok _ _ _ c.in_ok-check_fit.ensures).0
           (ledger_ends s _ begun _ (set s.records (pred c.args.number) (opened (clock_at s.clocks site) site c.args.lifetime)) (take_stamp s.clocks site) (λ _. refl) k c.begin.result e.answer refl e.records e.clocks refl),
       w,
       λ h. h,

@@ -13,42 +13,42 @@ loop-turn-init g c k e f =
     let b = k.is_sound.bounded c.args.object (finds (g.S.Store.means c.args.self.now.store) c.args.object c.args.time e).inside in
     (looking_none (view g.S.Store.means c.args.self.now) c.args.own c.args.object c.args.time c.args.found e f, k, omega arith)
 
-pub returns-then-is-plain : goal.returns-then-is-plain
-returns-then-is-plain g c k e f =
+pub returns-then-is_plain : goal.returns-then-is_plain
+returns-then-is_plain g c k e f =
     let plain : (is_version c.loop-turn.item || is_own c.args.own c.loop-turn.item) ≡ true = cc in
     let i = c.loop-turn.invariant k e f in
     (looked_plain _ _ _ _ _ _ i.0 i.1.is_sound plain, i.1)
 
-pub returns-in-err-settle-item : goal.returns-in-err-settle-item
-returns-in-err-settle-item g c k e f =
+pub returns-in_err-settle_item : goal.returns-in_err-settle_item
+returns-in_err-settle_item g c k e f =
     let token : (is_version c.loop-turn.item || is_own c.args.own c.loop-turn.item) ≡ false = cc in
     let i = c.loop-turn.invariant k e f in
-    absurd (c.in-err-settle-item.ensures i.1 (λ _. looked_held _ _ _ _ _ _ i.0 i.1.is_sound token))
+    absurd (c.in_err-settle_item.ensures i.1 (λ _. looked_held _ _ _ _ _ _ i.0 i.1.is_sound token))
 
 pub returns-in-Open : goal.returns-in-Open
 returns-in-Open g c k e f =
     let token : (is_version c.loop-turn.item || is_own c.args.own c.loop-turn.item) ≡ false = cc in
     let i = c.loop-turn.invariant k e f in
-    let q = c.in-ok-settle-item.ensures i.1 (λ _. looked_held _ _ _ _ _ _ i.0 i.1.is_sound token) in
-    let h = subst (λ w. Settles (view g.S.Store.means c.loop-turn.self) c.args.object c.loop-turn.item w (view g.S.Store.means c.settle-item.new.self)) c.in-Open.is q.0 in
+    let q = c.in_ok-settle_item.ensures i.1 (λ _. looked_held _ _ _ _ _ _ i.0 i.1.is_sound token) in
+    let h = subst (λ w. Settles (view g.S.Store.means c.loop-turn.self) c.args.object c.loop-turn.item w (view g.S.Store.means c.settle_item.new.self)) c.in-Open.is q.0 in
     (rw c.from.ensures (looked_open _ _ _ _ _ _ i.0 _ token h), q.1)
 
 pub returns-in-Committed : goal.returns-in-Committed
 returns-in-Committed g c k e f =
     let token : (is_version c.loop-turn.item || is_own c.args.own c.loop-turn.item) ≡ false = cc in
     let i = c.loop-turn.invariant k e f in
-    let q = c.in-ok-settle-item.ensures i.1 (λ _. looked_held _ _ _ _ _ _ i.0 i.1.is_sound token) in
-    let h = subst (λ w. Settles (view g.S.Store.means c.loop-turn.self) c.args.object c.loop-turn.item w (view g.S.Store.means c.settle-item.new.self)) c.in-Committed.is q.0 in
+    let q = c.in_ok-settle_item.ensures i.1 (λ _. looked_held _ _ _ _ _ _ i.0 i.1.is_sound token) in
+    let h = subst (λ w. Settles (view g.S.Store.means c.loop-turn.self) c.args.object c.loop-turn.item w (view g.S.Store.means c.settle_item.new.self)) c.in-Committed.is q.0 in
     (looked_committed _ _ _ _ _ _ i.0 _ i.1.is_sound token h, q.1)
 
-pub returns-in-err-item : goal.returns-in-err-item
-returns-in-err-item g c k e f =
+pub returns-in_err-item : goal.returns-in_err-item
+returns-in_err-item g c k e f =
     let token : (is_version c.loop-turn.item || is_own c.args.own c.loop-turn.item) ≡ false = cc in
     let i = c.loop-turn.invariant k e f in
-    let q = c.in-ok-settle-item.ensures i.1 (λ _. looked_held _ _ _ _ _ _ i.0 i.1.is_sound token) in
-    let h = subst (λ w. Settles (view g.S.Store.means c.loop-turn.self) c.args.object c.loop-turn.item w (view g.S.Store.means c.settle-item.new.self)) c.in-Aborted.is q.0 in
+    let q = c.in_ok-settle_item.ensures i.1 (λ _. looked_held _ _ _ _ _ _ i.0 i.1.is_sound token) in
+    let h = subst (λ w. Settles (view g.S.Store.means c.loop-turn.self) c.args.object c.loop-turn.item w (view g.S.Store.means c.settle_item.new.self)) c.in-Aborted.is q.0 in
     let n = looked_finds _ _ _ _ _ _ i.0 _ h in
-    let a = (c.in-err-item.ensures.answer q.1.is_whole).1 in
+    let a = (c.in_err-item.ensures.answer q.1.is_whole).1 in
     let z : ◌≡◌ {A = ℕ} 0 1 = cc in
     absurd (omega arith)
 
@@ -56,15 +56,15 @@ pub loop-turn-preserved : goal.loop-turn-preserved
 loop-turn-preserved g c k e f =
     let token : (is_version c.loop-turn.item || is_own c.args.own c.loop-turn.item) ≡ false = cc in
     let i = c.loop-turn.invariant k e f in
-    let q = c.in-ok-settle-item.ensures i.1 (λ _. looked_held _ _ _ _ _ _ i.0 i.1.is_sound token) in
-    let u = view g.S.Store.means c.settle-item.new.self in
+    let q = c.in_ok-settle_item.ensures i.1 (λ _. looked_held _ _ _ _ _ _ i.0 i.1.is_sound token) in
+    let u = view g.S.Store.means c.settle_item.new.self in
     let h = subst (λ w. Settles (view g.S.Store.means c.loop-turn.self) c.args.object c.loop-turn.item w u) c.in-Aborted.is q.0 in
-    let r = c.in-ok-item.ensures in
-    let v = view g.S.Store.means (record { store = c.find.new.self; ledger = c.settle-item.new.self.ledger; fit = c.settle-item.new.self.fit; kind = c.settle-item.new.self.kind }) in
+    let r = c.in_ok-item.ensures in
+    let v = view g.S.Store.means (record { store = c.find.new.self; ledger = c.settle_item.new.self.ledger; fit = c.settle_item.new.self.fit; kind = c.settle_item.new.self.kind }) in
     let after = r.after q.1.is_whole in
     let less = looked_less _ _ _ _ _ _ i.0 u h v after.0 refl refl refl in
     let bound = i.2 in (
-      looked_again _ _ _ _ _ _ i.0 u h v after.0 refl refl refl c.in-ok-item.item token (r.answer q.1.is_whole),
+      looked_again _ _ _ _ _ _ i.0 u h v after.0 refl refl refl c.in_ok-item.item token (r.answer q.1.is_whole),
       record { is_whole = after.1; is_sound = after.0.sound.1 },
       omega arith,
     )

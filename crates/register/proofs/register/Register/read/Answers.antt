@@ -10,13 +10,13 @@ use Rattle.register.specs.View.{view}
 use Rattle.register.proofs.Checks.{passed_step, turned_down, site_ready}
 use Rattle.register.proofs.register.Register.read.Goals as goal
 
-pub returns-in-err-time : goal.returns-in-err-time
-returns-in-err-time g c w =
-    let p = err_from_is_err_and c.from-residual-in-err-time.result c.from-residual-in-err-time.ensures.1 in
+pub returns-in_err-time : goal.returns-in_err-time
+returns-in_err-time g c w =
+    let p = err_from_is_err_and c.from_residual-in_err-time.result c.from_residual-in_err-time.ensures.1 in
     let s = view g.S.Store.means c.args.self.now in (
       rw (p.1, p.2)
           (turned_down g.V.Kind.form g.V.Kind.parse s (Read c.args.ticket c.args.object) (action_check s.records s.clocks c.args.ticket) _ refl _
-          (checked_ok _ _ _ c.in-ok-check-fit.ensures).0 (checked_err _ _ _ c.in-err-time.ensures)),
+          (checked_ok _ _ _ c.in_ok-check_fit.ensures).0 (checked_err _ _ _ c.in_err-time.ensures)),
       w,
       λ h. h,
     )
@@ -26,10 +26,10 @@ returns g c w =
     let s = view g.S.Store.means c.args.self.now in
     let t = view g.S.Store.means c.look.new.self in
     let ticket = c.args.ticket in
-    let timed = checked_ok _ _ _ c.in-ok-time.ensures in
+    let timed = checked_ok _ _ _ c.in_ok-time.ensures in
     let r = c.look.ensures w (site_ready s.records s.clocks ticket timed.0) in (
       passed_step g.V.Kind.form g.V.Kind.parse s (Read ticket c.args.object) (action_check s.records s.clocks ticket) _ refl t (given c.look.result)
-          (checked_ok _ _ _ c.in-ok-check-fit.ensures).0 timed.0
+          (checked_ok _ _ _ c.in_ok-check_fit.ensures).0 timed.0
           (subst (λ p. Ends (look g.V.Kind.parse s (Some ticket) c.args.object p (site_of ticket.1)) s (given c.look.result) t) timed.1 r.0),
       r.1.is_whole,
       λ _. r.1.is_sound,

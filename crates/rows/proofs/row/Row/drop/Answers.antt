@@ -4,8 +4,8 @@ use Rattle.rows.specs.Rowed.{row_cause}
 use Rattle.rows.proofs.Rowing.{passed, stays_lawful}
 use Rattle.rows.proofs.row.Row.drop.Goals as goal
 
-pub invariant-of-result : goal.invariant-of-result
-invariant-of-result c =
+pub invariant_of-result : goal.invariant_of-result
+invariant_of-result c =
     let s = c.args.self.now in
     let op = Drop c.args.start in
-    (omega (arith, c.without-count.ensures.1, s.short), (omega arith, (stays_lawful s op _ (passed (row_cause s op) c.in-ok-may-drop.ensures) c.without-count.ensures.0, tt)))
+    (omega (arith, c.without-count.ensures.1, s.short), (omega arith, (stays_lawful s op _ (passed (row_cause s op) c.in_ok-may_drop.ensures) c.without-count.ensures.0, tt)))

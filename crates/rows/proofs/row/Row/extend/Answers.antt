@@ -6,14 +6,14 @@ use Rattle.rows.specs.Rowed.{row_cause}
 use Rattle.rows.proofs.Rowing.{passed, stays_lawful}
 use Rattle.rows.proofs.row.Row.extend.Goals as goal
 
-pub invariant-of-result : goal.invariant-of-result
-invariant-of-result c =
+pub invariant_of-result : goal.invariant_of-result
+invariant_of-result c =
     let s = c.args.self.now in
     let op = Extend c.args.start c.args.time in
-    (s.short, (ap length c.extended.ensures ∙ length-map s.items _ ∙ s.wide, (stays_lawful s op _ (passed (row_cause s op) c.in-ok-may-extend.ensures) (ap (take s.count) c.extended.ensures ∙ take-map (extends c.args.start c.args.time) s.count s.items), tt)))
+    (s.short, (ap length c.extended.ensures ∙ length-map s.items _ ∙ s.wide, (stays_lawful s op _ (passed (row_cause s op) c.in_ok-may_extend.ensures) (ap (take s.count) c.extended.ensures ∙ take-map (extends c.args.start c.args.time) s.count s.items), tt)))
 
 pub returns : goal.returns
 returns c =
     let s = c.args.self.now in
     let op = Extend c.args.start c.args.time in
-    (passed (row_cause s op) c.in-ok-may-extend.ensures, ap (take s.count) c.extended.ensures ∙ take-map (extends c.args.start c.args.time) s.count s.items)
+    (passed (row_cause s op) c.in_ok-may_extend.ensures, ap (take s.count) c.extended.ensures ∙ take-map (extends c.args.start c.args.time) s.count s.items)

@@ -6,4 +6,4 @@ use Rattle.rows.proofs.row.Row.may_seal.Goals as goal
 
 pub returns : goal.returns
 returns c =
-    sym (ap verdict (seal_passes (row_chain c.args.self.now) (row_room c.args.self.now) c.args.start c.if-start-ge-TIME-LIMIT.false (told _ _ _ _ c.if-not-any.ensures c.used.ensures)))
+    sym (ap verdict (seal_passes (row_chain c.args.self.now) (row_room c.args.self.now) c.args.start c.if-start-ge-TIME_LIMIT.false (told _ _ _ _ c.if-not-any.ensures c.used.ensures)))

@@ -6,14 +6,14 @@ use Rattle.rows.specs.Rowed.{row_cause}
 use Rattle.rows.proofs.Rowing.{passed, stays_lawful}
 use Rattle.rows.proofs.row.Row.seal.Goals as goal
 
-pub invariant-of-result : goal.invariant-of-result
-invariant-of-result c =
+pub invariant_of-result : goal.invariant_of-result
+invariant_of-result c =
     let s = c.args.self.now in
     let op = Seal c.args.start in
-    (s.short, (ap length c.sealed.ensures ∙ length-map s.items _ ∙ s.wide, (stays_lawful s op _ (passed (row_cause s op) c.in-ok-may-seal.ensures) (ap (take s.count) c.sealed.ensures ∙ take-map (seals c.args.start) s.count s.items), tt)))
+    (s.short, (ap length c.sealed.ensures ∙ length-map s.items _ ∙ s.wide, (stays_lawful s op _ (passed (row_cause s op) c.in_ok-may_seal.ensures) (ap (take s.count) c.sealed.ensures ∙ take-map (seals c.args.start) s.count s.items), tt)))
 
 pub returns : goal.returns
 returns c =
     let s = c.args.self.now in
     let op = Seal c.args.start in
-    (passed (row_cause s op) c.in-ok-may-seal.ensures, ap (take s.count) c.sealed.ensures ∙ take-map (seals c.args.start) s.count s.items)
+    (passed (row_cause s op) c.in_ok-may_seal.ensures, ap (take s.count) c.sealed.ensures ∙ take-map (seals c.args.start) s.count s.items)
