@@ -4,7 +4,7 @@ use Rattle.chained.proofs.Soundness.{of_chain, dropped, refused}
 use Rattle.chained.proofs.store.ChainedStore.drop.Goals as goal
 
 pub invariant_of-self : goal.invariant_of-self
-invariant_of-self c = (c.args.self.now.lawful ∙ (dropped c.args.self.now.table.bytes.now c.remove.new.self.bytes.now c.args.object c.args.start c.in-Ok.last c.in-Ok.k c.in-Ok.ensures c.remove.ensures).served, tt)
+invariant_of-self c = record { lawful = c.args.self.now.lawful ∙ (dropped c.args.self.now.table.bytes.now c.remove.new.self.bytes.now c.args.object c.args.start c.in-Ok.last c.in-Ok.k c.in-Ok.ensures c.remove.ensures).served }
 
 pub returns-in-Ok : goal.returns-in-Ok
 returns-in-Ok c =

@@ -4,7 +4,7 @@ use Rattle.chained.proofs.Soundness.{of_chain, extended, refused}
 use Rattle.chained.proofs.store.ChainedStore.extend.Goals as goal
 
 pub invariant_of-self : goal.invariant_of-self
-invariant_of-self c = (c.args.self.now.lawful ∙ (extended c.args.self.now.table.bytes.now c.set_end.new.self.bytes.now c.args.object c.args.start c.args.time c.in-Ok.k c.in-Ok.«end» c.in-Ok.ensures c.set_end.ensures).served, tt)
+invariant_of-self c = record { lawful = c.args.self.now.lawful ∙ (extended c.args.self.now.table.bytes.now c.set_end.new.self.bytes.now c.args.object c.args.start c.args.time c.in-Ok.k c.in-Ok.«end» c.in-Ok.ensures c.set_end.ensures).served }
 
 pub returns-in-Ok : goal.returns-in-Ok
 returns-in-Ok c =

@@ -4,7 +4,7 @@ use Rattle.chained.proofs.Soundness.{of_chain, of_free, put_done, refused}
 use Rattle.chained.proofs.store.ChainedStore.put.Goals as goal
 
 pub invariant_of-self : goal.invariant_of-self
-invariant_of-self c = (c.args.self.now.lawful ∙ (put_done c.args.self.now.table.bytes.now c.insert.new.self.bytes.now c.args.object c.args.time c.args.mark c.args.number c.in-Ok.last c.in-Ok.k (omega arith) c.in-Ok.ensures c.insert.ensures).served, tt)
+invariant_of-self c = record { lawful = c.args.self.now.lawful ∙ (put_done c.args.self.now.table.bytes.now c.insert.new.self.bytes.now c.args.object c.args.time c.args.mark c.args.number c.in-Ok.last c.in-Ok.k (omega arith) c.in-Ok.ensures c.insert.ensures).served }
 
 pub returns-in-Ok : goal.returns-in-Ok
 returns-in-Ok c =

@@ -4,7 +4,7 @@ use Rattle.chained.proofs.Soundness.{of_chain, sealed, refused}
 use Rattle.chained.proofs.store.ChainedStore.seal.Goals as goal
 
 pub invariant_of-self : goal.invariant_of-self
-invariant_of-self c = (c.args.self.now.lawful ∙ (sealed c.args.self.now.table.bytes.now c.set_mark.new.self.bytes.now c.args.object c.args.start c.in-Ok.place.at c.in-Ok.ensures.0 c.in-Ok.ensures.1.0 c.set_mark.ensures).served, tt)
+invariant_of-self c = record { lawful = c.args.self.now.lawful ∙ (sealed c.args.self.now.table.bytes.now c.set_mark.new.self.bytes.now c.args.object c.args.start c.in-Ok.place.at c.in-Ok.ensures.0 c.in-Ok.ensures.1.0 c.set_mark.ensures).served }
 
 pub returns-in-Ok : goal.returns-in-Ok
 returns-in-Ok c =

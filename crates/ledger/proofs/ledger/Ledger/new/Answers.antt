@@ -11,4 +11,4 @@ empty (suc n) zero = refl
 empty (suc n) (suc k) = empty n k
 
 pub invariant_of-result : goal.invariant_of-result
-invariant_of-result c = (λ k. (rw (empty 64 k) zero-le), tt)
+invariant_of-result c = record { counted = λ k. (rw (empty 64 k) zero-le) }

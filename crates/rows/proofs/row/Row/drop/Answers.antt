@@ -8,4 +8,4 @@ pub invariant_of-result : goal.invariant_of-result
 invariant_of-result c =
     let s = c.args.self.now in
     let op = Drop c.args.start in
-    (omega (arith, c.without-count.ensures.1, s.short), (omega arith, (stays_lawful s op _ (passed (row_cause s op) c.in_ok-may_drop.ensures) c.without-count.ensures.0, tt)))
+    record { short = omega (arith, c.without-count.ensures.1, s.short); wide = omega arith; lawful = stays_lawful s op _ (passed (row_cause s op) c.in_ok-may_drop.ensures) c.without-count.ensures.0 }

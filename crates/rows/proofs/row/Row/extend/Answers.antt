@@ -10,7 +10,7 @@ pub invariant_of-result : goal.invariant_of-result
 invariant_of-result c =
     let s = c.args.self.now in
     let op = Extend c.args.start c.args.time in
-    (s.short, (ap length c.extended.ensures ∙ length-map s.items _ ∙ s.wide, (stays_lawful s op _ (passed (row_cause s op) c.in_ok-may_extend.ensures) (ap (take s.count) c.extended.ensures ∙ take-map (extends c.args.start c.args.time) s.count s.items), tt)))
+    record { short = s.short; wide = ap length c.extended.ensures ∙ length-map s.items _ ∙ s.wide; lawful = stays_lawful s op _ (passed (row_cause s op) c.in_ok-may_extend.ensures) (ap (take s.count) c.extended.ensures ∙ take-map (extends c.args.start c.args.time) s.count s.items) }
 
 pub returns : goal.returns
 returns c =

@@ -14,4 +14,4 @@ invariant_of-result c =
     let op = Put c.args.time c.args.mark c.args.number in
     let accepted = passed (row_cause s op) c.in_ok-may_put.ensures in
     let short = room_left s c.args.time c.args.mark c.args.number accepted in
-    (omega arith, (omega arith, (stays_lawful s op _ accepted c.inserted.ensures, tt)))
+    record { short = omega arith; wide = omega arith; lawful = stays_lawful s op _ accepted c.inserted.ensures }

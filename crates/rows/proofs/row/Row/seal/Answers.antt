@@ -10,7 +10,7 @@ pub invariant_of-result : goal.invariant_of-result
 invariant_of-result c =
     let s = c.args.self.now in
     let op = Seal c.args.start in
-    (s.short, (ap length c.sealed.ensures ∙ length-map s.items _ ∙ s.wide, (stays_lawful s op _ (passed (row_cause s op) c.in_ok-may_seal.ensures) (ap (take s.count) c.sealed.ensures ∙ take-map (seals c.args.start) s.count s.items), tt)))
+    record { short = s.short; wide = ap length c.sealed.ensures ∙ length-map s.items _ ∙ s.wide; lawful = stays_lawful s op _ (passed (row_cause s op) c.in_ok-may_seal.ensures) (ap (take s.count) c.sealed.ensures ∙ take-map (seals c.args.start) s.count s.items) }
 
 pub returns : goal.returns
 returns c =
