@@ -1,6 +1,6 @@
 -- The first four bytes, as a number and as a front of the bytes.
 use Rattle.std.proofs.Common.{◌≡◌, ℕ, ◌<◌, Bool, eqb, List, [], ◌∷◌, ◌++◌, length, get_or, take, Decides, refl, ap, ◌∙◌, arith}
-use Rattle.std.specs.Cmp.Lexicographic.{Matches}
+use Rattle.std.specs.List.{starts_with}
 use Rattle.std.proofs.lemmas.Slice.Eq.{starts_is}
 use Rattle.std.proofs.lemmas.Bool.Decides.{same_from_decides, Decides-eqb}
 use Rattle.layout.specs.Field.{num}
@@ -23,7 +23,7 @@ front (a ∷ b ∷ c ∷ d ∷ rest) h e =
     let s : d ≡ 0x31 = omega (arith, h 0, h 1, h 2, h 3) in
     (rest, cc)
 
-pub magic_is : (bs : List ℕ) (r : Bool) → ((i : ℕ) → get_or bs i 0 < 256) → Matches (λ (a b : ℕ) (t : Bool). Decides t (a ≡ b)) magic (take (length magic) bs) r → r ≡ eqb (num bs 0 4) 0x50544831
+pub magic_is : (bs : List ℕ) (r : Bool) → ((i : ℕ) → get_or bs i 0 < 256) → r ≡ starts_with eqb bs magic → r ≡ eqb (num bs 0 4) 0x50544831
 magic_is bs r h m =
     let s = starts_is Decides-eqb bs magic r m in
     same_from_decides {P = num bs 0 4 ≡ 0x50544831} r _ (
