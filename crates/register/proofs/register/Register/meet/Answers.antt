@@ -41,14 +41,14 @@ returns-in-Committed g c k e f =
     let h = subst (λ w. Settles (view g.S.Store.means c.loop-turn.self) c.args.object c.loop-turn.item w (view g.S.Store.means c.settle_item.new.self)) c.in-Committed.is q.0 in
     (looked_committed _ _ _ _ _ _ i.0 _ i.1.is_sound token h, q.1)
 
-pub returns-in_err-item : goal.returns-in_err-item
-returns-in_err-item g c k e f =
+pub returns-in_err-item-in-Aborted : goal.returns-in_err-item-in-Aborted
+returns-in_err-item-in-Aborted g c k e f =
     let token : (is_version c.loop-turn.item || is_own c.args.own c.loop-turn.item) ≡ false = cc in
     let i = c.loop-turn.invariant k e f in
     let q = c.in_ok-settle_item.ensures i.1 (λ _. looked_held _ _ _ _ _ _ i.0 i.1.is_sound token) in
     let h = subst (λ w. Settles (view g.S.Store.means c.loop-turn.self) c.args.object c.loop-turn.item w (view g.S.Store.means c.settle_item.new.self)) c.in-Aborted.is q.0 in
     let n = looked_finds _ _ _ _ _ _ i.0 _ h in
-    let a = (c.in_err-item.ensures.answer q.1.is_whole).1 in
+    let a = (c.in_err-item-in-Aborted.ensures.answer q.1.is_whole).1 in
     let z : ◌≡◌ {A = ℕ} 0 1 = cc in
     absurd (omega arith)
 
@@ -59,12 +59,12 @@ loop-turn-preserved g c k e f =
     let q = c.in_ok-settle_item.ensures i.1 (λ _. looked_held _ _ _ _ _ _ i.0 i.1.is_sound token) in
     let u = view g.S.Store.means c.settle_item.new.self in
     let h = subst (λ w. Settles (view g.S.Store.means c.loop-turn.self) c.args.object c.loop-turn.item w u) c.in-Aborted.is q.0 in
-    let r = c.in_ok-item.ensures in
+    let r = c.in_ok-item-in-Aborted.ensures in
     let v = view g.S.Store.means (record { store = c.find.new.self; ledger = c.settle_item.new.self.ledger; fit = c.settle_item.new.self.fit; kind = c.settle_item.new.self.kind }) in
     let after = r.after q.1.is_whole in
     let less = looked_less _ _ _ _ _ _ i.0 u h v after.0 refl refl refl in
     let bound = i.2 in (
-      looked_again _ _ _ _ _ _ i.0 u h v after.0 refl refl refl c.in_ok-item.item token (r.answer q.1.is_whole),
+      looked_again _ _ _ _ _ _ i.0 u h v after.0 refl refl refl c.in_ok-item-in-Aborted.item token (r.answer q.1.is_whole),
       record { is_whole = after.1; is_sound = after.0.sound.1 },
       omega arith,
     )
