@@ -41,7 +41,7 @@ impl<P: Store, Q: Store> Hall<P, Q> {
         call: Call<Place>,
     ) -> io::Result<Answer<Place>> {
         let answer = perform(&mut self.places, call);
-        print!(rt, "{what}: ")?;
+        print!(rt; "{what}: ")?;
         match answer {
             Answer::Value(place) => tell_place(rt, place)?,
             _ => tell_plain(rt, &answer)?,
@@ -58,7 +58,7 @@ impl<P: Store, Q: Store> Hall<P, Q> {
         call: Call<Seats>,
     ) -> io::Result<Answer<Seats>> {
         let answer = perform(&mut self.seats, call);
-        print!(rt, "{what}: ")?;
+        print!(rt; "{what}: ")?;
         match answer {
             Answer::Value(seats) => tell_seats(rt, seats)?,
             _ => tell_plain(rt, &answer)?,
@@ -75,12 +75,12 @@ impl<P: Store, Q: Store> Hall<P, Q> {
 
     // One line of the table, as a glance from a site sees it.
     fn line_aloud(&mut self, rt: &impl Print, site: u32, object: u32) -> io::Result<()> {
-        print!(rt, "  line {object}: ")?;
+        print!(rt; "  line {object}: ")?;
         match perform(&mut self.places, Call::Glance { site, object }) {
             Answer::Value(place) => tell_place(rt, place)?,
             answer => tell_plain(rt, &answer)?,
         }
-        print!(rt, ", ")?;
+        print!(rt; ", ")?;
         match perform(&mut self.seats, Call::Glance { site, object }) {
             Answer::Value(seats) => tell_seats(rt, seats)?,
             answer => tell_plain(rt, &answer)?,

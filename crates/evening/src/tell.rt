@@ -9,18 +9,18 @@ use std::io;
 
 pub fn tell_place(rt: &impl Print, place: Place) -> io::Result<()> {
     match place {
-        Place::Vacant => print!(rt, "vacant"),
+        Place::Vacant => print!(rt; "vacant"),
         Place::Held { teacher, classroom } => {
             let teacher = teacher.number();
             let classroom = classroom.number();
-            print!(rt, "teacher {teacher} in classroom {classroom}")
+            print!(rt; "teacher {teacher} in classroom {classroom}")
         }
     }
 }
 
 pub fn tell_seats(rt: &impl Print, seats: Seats) -> io::Result<()> {
     let free = seats.value();
-    print!(rt, "{free} free seats")
+    print!(rt; "{free} free seats")
 }
 
 fn word(standing: &Option<Standing>) -> &'static str {
@@ -35,18 +35,18 @@ fn word(standing: &Option<Standing>) -> &'static str {
 // An answer that is no value.
 pub fn tell_plain<V>(rt: &impl Print, answer: &Answer<V>) -> io::Result<()> {
     match answer {
-        Answer::Began((record, creation)) => print!(rt, "begun, ticket {record} {creation}"),
-        Answer::Wait(record) => print!(rt, "wait for record {record}"),
-        Answer::Settled((sealed, dropped)) => print!(rt, "{sealed} sealed, {dropped} dropped"),
+        Answer::Began((record, creation)) => print!(rt; "begun, ticket {record} {creation}"),
+        Answer::Wait(record) => print!(rt; "wait for record {record}"),
+        Answer::Settled((sealed, dropped)) => print!(rt; "{sealed} sealed, {dropped} dropped"),
         Answer::Stands(standing, tokens) => {
             let word = word(standing);
-            print!(rt, "{word}, {tokens} tokens left")
+            print!(rt; "{word}, {tokens} tokens left")
         }
         Answer::Refused(refusal) => {
             let number = refusal.number();
-            print!(rt, "refused with {number}")
+            print!(rt; "refused with {number}")
         }
-        _ => print!(rt, "done"),
+        _ => print!(rt; "done"),
     }
 }
 
@@ -54,7 +54,7 @@ pub fn tell_plain<V>(rt: &impl Print, answer: &Answer<V>) -> io::Result<()> {
 pub fn tell_places<P: Store>(rt: &impl Print, places: &mut P, time: u64) -> anyhow::Result<()> {
     for line in 0..3 {
         let (place, settled) = read::<Place, P>(places, line, time)?;
-        print!(rt, "  line {line}: ")?;
+        print!(rt; "  line {line}: ")?;
         tell_place(rt, place)?;
         println!(rt; "{}", if settled { "" } else { " (not settled)" })?;
     }
