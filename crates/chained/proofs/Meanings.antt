@@ -1,12 +1,11 @@
 -- What the bytes mean, and the outcomes of operations on a meaning.
-use Rattle.std.proofs.Common.{◌≡◌, ℕ, zero, suc, ◌+◌, ◌*◌, ◌<◌, ◌≤◌, Bool, true, false, cond, eqb, leb, List, [], map, length, get_or, Some, refl, ap, ◌∙◌, ⊎_elim, zero-add, arith}
+use Rattle.std.proofs.Common.{◌≡◌, ℕ, ◌+◌, ◌<◌, ◌≤◌, true, false, cond, leb, List, [], map, length, get_or, Some, refl, ap, ◌∙◌, ⊎_elim, zero-add, arith}
 use Rattle.std.proofs.lemmas.List.{length-map, get_or-map}
 use Rattle.std.proofs.lemmas.List.FromFn.{length-map-range_with_len, get_or-map-range_with_len}
-use Rattle.std.proofs.lemmas.Bool.{cases_Bool, eqb-true, eqb-false, leb-true, le-leb, lt-leb, and_parts, and_from, cond-true, cond-false}
+use Rattle.std.proofs.lemmas.Bool.{cases_Bool, le-leb, lt-leb, cond-true, cond-false}
 use Rattle.history.specs.declared.item.Cause.TheVariants.{NoObject}
 use Rattle.history.specs.Meaning.{Op, chain_of, objects_of, cause_of, cause_in}
-use Rattle.layout.specs.Field.{num}
-use Rattle.layout.specs.Layout.{objects_in, records_in, free_in, item_at, pad_at, path, paths, whole, items, uses, each_below, each_of, blank, history, header, lawful}
+use Rattle.layout.specs.Layout.{objects_in, item_at, path, paths, whole, items, history, lawful}
 use Rattle.layout.proofs.Parts.{below, Header, header_parts, Parts, parts}
 use Rattle.layout.proofs.Represents.{Represents, Same, same}
 use Rattle.chained.specs.Means.{meaning, served}

@@ -7,7 +7,7 @@ use Rattle.std.proofs.lemmas.Bool.{cases_eq, cond-true, eq-eqb}
 use Rattle.history.specs.Meaning.{Op, applied, cause_in}
 use Rattle.history.proofs.Finds.{histories_stand_lem}
 use Rattle.layout.specs.Field.{num}
-use Rattle.layout.specs.Layout.{objects_in, records_in, free_in, item_at, next_at, path, paths, items, times, blank, history, header, lawful}
+use Rattle.layout.specs.Layout.{objects_in, records_in, free_in, item_at, next_at, path, paths, items, times, blank, history, header}
 use Rattle.chained.specs.Means.{meaning}
 use Rattle.chained.specs.Laws.{Spells, room_after}
 use Rattle.layout.proofs.Runs.{Run, trail_within}

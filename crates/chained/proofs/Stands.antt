@@ -10,7 +10,7 @@ use Rattle.history.specs.Meaning.Op.{Find, At, Extend, Put, Seal, Drop}
 use Rattle.history.proofs.Chains.{Sorted, ascends_sorted, ascends_spanned, lawful_ascends, find_is}
 use Rattle.history.proofs.Laws.{first_stays}
 use Rattle.history.proofs.Outcomes.{either_none, extend_needs, put_needs, drop_needs}
-use Rattle.layout.specs.Layout.{records_in, free_in, item_at, next_at, path, items, times, blank, lawful}
+use Rattle.layout.specs.Layout.{records_in, free_in, item_at, next_at, path, items, times, blank}
 use Rattle.chained.specs.Edits.{blank_item, relink, link, unlink, record_by, chained_writes}
 use Rattle.layout.specs.Edits.{Changed, with_end, with_mark}
 use Rattle.chained.specs.Means.{meaning, served}

@@ -1,5 +1,5 @@
 -- What each operation of a store writes.
-use Rattle.std.specs.Prelude.{◌≡◌, ℕ, ◌+◌, ◌-◌, ◌*◌, ◌≤◌, max, cond, List, [], ◌∷◌, length}
+use Rattle.std.specs.Prelude.{ℕ, ◌+◌, ◌-◌, max, cond, List, [], ◌∷◌}
 use Rattle.history.specs.declared.item.Item.{Item}
 use Rattle.history.specs.Chain.{starts_by, fresh_item}
 use Rattle.history.specs.Meaning.{Op}

@@ -1,6 +1,6 @@
 -- The law of the bytes: what an accepted operation writes is lawful again, and spells the changed histories.
 use Rattle.std.specs.Prelude.{◌≡◌, ℕ, ◌+◌, ◌-◌, ◌^◌, ◌<◌, true, List, None, slice_set}
-use Rattle.history.specs.Meaning.{Meaning, Op, applied, cause_of, chain_of}
+use Rattle.history.specs.Meaning.{Op, applied, cause_of, chain_of}
 use Rattle.history.specs.Meaning.Op.{Find, At, Extend, Put, Seal, Drop}
 use Rattle.layout.specs.Layout.{objects_in, lawful}
 use Rattle.chained.specs.Edits.{chained_writes}

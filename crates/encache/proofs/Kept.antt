@@ -1,15 +1,15 @@
 -- That the lines stay right, as the chains below change.
-use Rattle.std.proofs.Common.{◌≡◌, ℕ, ◌%◌, ◌<◌, ◌≤◌, Bool, true, false, cond, not, ◌&&◌, eqb, ◌⊎◌, List, [], ◌∷◌, map, length, get_or, set, Some, None, Ok, Err, Option, Result, sym, refl, ap, ◌∙◌, subst, inl, inr, ⊎_elim, arith}
+use Rattle.std.proofs.Common.{◌≡◌, ℕ, ◌%◌, ◌<◌, true, false, ◌&&◌, eqb, List, [], map, length, get_or, set, Some, None, Ok, Err, Option, Result, sym, refl, ap, ◌∙◌, subst, ⊎_elim, arith}
 use Rattle.std.proofs.lemmas.List.{get_or-set_same, get_or-set_other, get_or_past, set-get_or}
 use Rattle.std.proofs.lemmas.Bool.{cond-true, cond-false, cond_both, cases_Bool, cases_lt, cases_eq, and_parts, and_from, and_cases, eqb-true, eqb-false, eq-eqb, leb-true, both_ways, not_from_false}
 use Rattle.history.specs.declared.item.Item.{Item}
 use Rattle.history.specs.declared.item.Fault.{Fault}
-use Rattle.history.specs.Chain.{has_start, covers, keep, extends, seals, put_in, drop_in, find_in, fresh_item}
+use Rattle.history.specs.Chain.{has_start, covers, extends, seals, put_in, drop_in, find_in, fresh_item}
 use Rattle.history.specs.Members.{◌∈◌}
 use Rattle.history.specs.Meaning.{Meaning, Sound, Outcome, Op, answered, applied, chain_of, cause_of}
 use Rattle.history.specs.Meaning.Op.{Find, At, Extend, Put, Seal, Drop}
 use Rattle.history.proofs.Lists.{in_map}
-use Rattle.history.proofs.Chains.{in_keep, in_put_old, found_in, found_covering, ascends_spanned, lawful_ascends, lawful_sorted, none_some, some_same}
+use Rattle.history.proofs.Chains.{in_keep, in_put_old, found_in, found_covering, ascends_spanned, lawful_ascends, none_some, some_same}
 use Rattle.history.proofs.Members.{has_from, has_is}
 use Rattle.history.proofs.Outcomes.{find_accepted, find_leaves, ok_accepted, err_chains, accepted_chains}
 use Rattle.encache.specs.declared.line.Line.{Line}

@@ -1,5 +1,5 @@
 -- Chains: membership, order, and what is found.
-use Rattle.std.proofs.Common.{◌≡◌, ℕ, ◌^◌, ◌<◌, ◌≤◌, Bool, true, false, cond, ltb, leb, ◌⊎◌, List, [], ◌∷◌, ◌++◌, Some, None, Option, sym, refl, ap, ◌∙◌, subst, inl, inr, arith, ltb-false, ltb-true, eq-eqb, le-leb, leb-false, leb-true}
+use Rattle.std.proofs.Common.{◌≡◌, ℕ, ◌<◌, ◌≤◌, Bool, true, false, cond, ltb, leb, ◌⊎◌, List, [], ◌∷◌, ◌++◌, Some, None, Option, sym, refl, ap, ◌∙◌, subst, inl, inr, arith, ltb-false, ltb-true, eq-eqb, le-leb, leb-false, leb-true}
 use Rattle.std.proofs.lemmas.Bool.{and_cases, cond-true, cond_both, both_ways}
 use Rattle.history.specs.declared.item.Item.{Item}
 use Rattle.history.specs.Chain.{keep, some_item, last_item, is_version, starts_by, covers, find_in, put_in, Spanned, Beyond, Ascends, Lawful}

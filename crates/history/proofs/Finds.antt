@@ -1,13 +1,13 @@
 -- What find answers after each accepted operation.
-use Rattle.std.proofs.Common.{◌≡◌, ℕ, ◌-◌, ◌<◌, ◌≤◌, Bool, true, false, cond, not, eqb, ltb, leb, ◌⊎◌, List, [], ◌∷◌, map, Some, None, Option, sym, refl, ap, ◌∙◌, subst, inl, inr, ⊎_elim, arith}
-use Rattle.std.proofs.lemmas.Bool.{cond-true, cond-false, cond_both, cases_Bool, eqb-true, eqb-false, leb-true, leb-false, ltb-true, ltb-false, not_from_false, not-true, ne_eqb, both_ways}
+use Rattle.std.proofs.Common.{◌≡◌, ℕ, ◌-◌, ◌<◌, ◌≤◌, Bool, true, false, cond, ltb, leb, ◌⊎◌, List, [], ◌∷◌, map, Some, sym, refl, ap, ◌∙◌, subst, inl, inr, arith}
+use Rattle.std.proofs.lemmas.Bool.{cond_both, eqb-true, eqb-false, leb-true, leb-false, ltb-true, ltb-false, not_from_false, not-true, ne_eqb}
 use Rattle.history.specs.declared.item.Item.{Item}
-use Rattle.history.specs.Chain.{keep, last_item, starts_by, has_start, find_in, extends, seals, drop_in, put_in, fresh_item, covers, some_item, Lawful}
-use Rattle.history.specs.Meaning.{Op, cause_in, applied, version_at}
+use Rattle.history.specs.Chain.{keep, last_item, starts_by, has_start, find_in, extends, seals, drop_in, put_in, fresh_item, Lawful}
+use Rattle.history.specs.Meaning.{version_at}
 use Rattle.history.specs.Meaning.Op.{Find, At, Extend, Put, Seal, Drop}
-use Rattle.history.specs.Laws.{changed, later, in_place_of, found_after, Stands, HistoriesStand}
-use Rattle.history.specs.Members.{◌∈◌, here, there}
-use Rattle.history.proofs.Chains.{in_keep, of_keep, of_put, in_put_new, in_put_old, keep_sorted, lawful_sorted, lawful_span, Sorted, find_is, find_from, find_some, uncovered, sorted_one, FoundAt}
+use Rattle.history.specs.Laws.{changed, later, in_place_of, HistoriesStand}
+use Rattle.history.specs.Members.{◌∈◌}
+use Rattle.history.proofs.Chains.{in_keep, of_keep, of_put, in_put_new, in_put_old, lawful_sorted, find_is, find_from, find_some, FoundAt}
 use Rattle.history.proofs.Laws.{extends_start, seals_start, first_stays, lawful_extend, lawful_seal, lawful_drop, lawful_put}
 use Rattle.history.proofs.Outcomes.{extend_needs, put_needs, drop_needs}
 

@@ -1,5 +1,5 @@
 -- The test that a chain has an item, and how long a chain is.
-use Rattle.std.proofs.Common.{◌≡◌, ℕ, ◌+◌, ◌<◌, ◌≤◌, Bool, true, false, cond, not, ltb, ◌⊎◌, List, [], ◌∷◌, length, sym, refl, ap, ◌∙◌, subst, inl, inr, ⊎_elim, arith}
+use Rattle.std.proofs.Common.{◌≡◌, ℕ, ◌+◌, ◌≤◌, Bool, true, false, cond, not, ltb, List, [], ◌∷◌, length, sym, refl, ◌∙◌, subst, inl, inr, ⊎_elim, arith}
 use Rattle.std.proofs.lemmas.Bool.{cond-true, cond-false, cond_both, cases_Bool, and_parts, and_from, eqb-true, eq-eqb, both_ways, not_from_true, not_from_false}
 use Rattle.history.specs.declared.item.Item.{Item}
 use Rattle.history.specs.Chain.{keep, some_item, has_start, drop_in, same_item, has_item, put_in}

@@ -1,5 +1,5 @@
 -- What the outcome of an operation says, by whether it was turned down.
-use Rattle.std.proofs.Common.{◌≡◌, ℕ, ◌^◌, ◌<◌, ◌≤◌, Bool, true, false, cond, ◌||◌, eqb, ltb, leb, List, [], set, Some, None, Ok, Err, Option, Result, sym, refl, ap, ◌∙◌, subst, arith}
+use Rattle.std.proofs.Common.{◌≡◌, ℕ, ◌^◌, ◌<◌, ◌≤◌, Bool, true, false, ◌||◌, eqb, ltb, leb, List, [], set, Some, None, Ok, Err, Option, Result, sym, refl, ap, ◌∙◌, subst, arith}
 use Rattle.std.proofs.lemmas.List.{set-get_or}
 use Rattle.std.proofs.lemmas.Bool.{eq-eqb, both_ways, not-false, cond-true, cond-false, le-leb, lt-leb, leb-false, ltb-false, or_parts, le-ltb, ne_eqb, or_from, not_from_true}
 use Rattle.history.specs.declared.item.Item.{Item}
@@ -8,7 +8,7 @@ use Rattle.history.specs.declared.item.Cause.TheVariants.{NoObject}
 use Rattle.history.specs.declared.item.Fault.{Fault}
 use Rattle.history.specs.Meaning.{Meaning, Sound, Op, Outcome, answer_by, chains_by, image_by, RoomsBy, answered, applied, written, either, cause_of, chain_of, cause_in, fault_of, no_start, objects_of, too_large, version_at, Rooms}
 use Rattle.history.specs.Chain.{some_item, has_start, starts_within, covers}
-use Rattle.history.specs.Meaning.Op.{Find, At, Extend, Put, Seal, Drop}
+use Rattle.history.specs.Meaning.Op.{Find, Extend, Put, Seal, Drop}
 
 -- find leaves all as it was, turned down or not
 

@@ -1,10 +1,10 @@
 -- What a store means, and the outcome of each of its operations.
-use Rattle.std.specs.Prelude.{◌≡◌, ℕ, ◌+◌, ◌^◌, ◌<◌, ◌≤◌, Bool, true, false, cond, not, ◌&&◌, ◌||◌, List, [], ◌∷◌, map, length, Some, None, Ok, Err, Option, Result, ◌==◌, nat_le, nat_lt, slice_index_or, slice_set}
+use Rattle.std.specs.Prelude.{◌≡◌, ℕ, ◌+◌, ◌^◌, ◌<◌, ◌≤◌, Bool, cond, not, ◌&&◌, ◌||◌, List, [], length, Some, None, Ok, Err, Option, Result, ◌==◌, nat_le, nat_lt, slice_index_or, slice_set}
 use Rattle.history.specs.declared.item.Item.{Item}
 use Rattle.history.specs.declared.item.Cause.{Cause}
 use Rattle.history.specs.declared.item.Cause.TheVariants.{NoObject, OutOfRange, NoItem, Overlap, IsVersion, NoRoom}
 use Rattle.history.specs.declared.item.Fault.{Fault}
-use Rattle.history.specs.Chain.{keep, some_item, nth_item, starts_by, has_start, covers, starts_within, is_version, find_in, extend_in, seal_in, drop_in, put_in, fresh_item, Lawful}
+use Rattle.history.specs.Chain.{some_item, has_start, covers, starts_within, is_version, find_in, extend_in, seal_in, drop_in, put_in, fresh_item, Lawful}
 
 -- An operation, with what it is given beside the object: a pseudo-time, a start, a mark, a number.
 pub data Op : Type 0 where

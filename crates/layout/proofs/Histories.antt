@@ -1,5 +1,5 @@
 -- The rules of a history, decided.
-use Rattle.std.proofs.Common.{◌≡◌, ℕ, true, false, List, [], ◌∷◌, refl}
+use Rattle.std.proofs.Common.{◌≡◌, ℕ, true, List, [], ◌∷◌, refl}
 use Rattle.std.proofs.lemmas.Bool.{eqb-true, leb-true, ltb-true, le-leb, lt-ltb, eq-eqb, and_parts, and_from, false≢true}
 use Rattle.history.specs.declared.item.Item.{Item}
 use Rattle.history.specs.Chain.{Spanned, Beyond, Ascends, Lawful}

@@ -1,5 +1,5 @@
 -- That tokens stay counted as records and clocks are written.
-use Rattle.std.proofs.Common.{◌≡◌, ℕ, zero, suc, pred, ◌+◌, ◌<◌, ◌≤◌, List, [], ◌∷◌, get_or, set, None, zero-le, le_trans, le_refl, arith}
+use Rattle.std.proofs.Common.{◌≡◌, ℕ, zero, suc, pred, ◌+◌, ◌≤◌, List, [], ◌∷◌, get_or, set, None, zero-le, le_trans, le_refl, arith}
 use Rattle.std.proofs.lemmas.Bool.Decides.{nat_tests}
 use Rattle.ledger.specs.declared.record.CommitRecord.{CommitRecord}
 use Rattle.ledger.specs.declared.record.CommitRecord.TheVariants.{Unused, Used}

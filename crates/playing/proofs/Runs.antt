@@ -19,7 +19,7 @@ use Rattle.script.specs.Printed.{shown, printed}
 use Rattle.script.proofs.Cuts.{lines_cut}
 use Rattle.script.proofs.Ended.{line_printed}
 use Rattle.playing.specs.Played.{form, answer_to, noted, state_after, output, answers, events, final, Played}
-use Rattle.playing.specs.Turns.{InBytes, Takes, Turn, Run, Runs}
+use Rattle.playing.specs.Turns.{InBytes, Takes, Runs}
 
 -- a script from a place in it on
 abbrev pub rest_of : List ℕ → ℕ → List (List ℕ)

@@ -10,7 +10,7 @@ use Rattle.ledger.specs.declared.refusal.Refusal.TheVariants.{Unreadable}
 use Rattle.register.specs.State.{State, Contents}
 use Rattle.register.specs.Start.{started}
 use Rattle.register.specs.Calls.{Outcome, outcome}
-use Rattle.serial.specs.Histories.{Event, History}
+use Rattle.serial.specs.Histories.{History}
 use Rattle.serial.specs.SerialOrder.{SerialOrder, found_at}
 use Rattle.script.specs.Format.{call_of}
 use Rattle.script.specs.Lines.{lines}

@@ -1,5 +1,5 @@
 -- Calls that a check turns down, and calls that change the ledger alone.
-use Rattle.std.proofs.Common.{◌≡◌, ℕ, ◌%◌, ltb, List, Some, None, Ok, Err, Option, Result, sym, refl, ap, ◌∙◌, subst, arith}
+use Rattle.std.proofs.Common.{◌≡◌, ℕ, ◌%◌, List, Some, None, Ok, Err, Option, Result, sym, refl, ap, ◌∙◌, subst, arith}
 use Rattle.std.proofs.lemmas.Bool.{le-ltb}
 use Rattle.ledger.specs.declared.refusal.Refusal.{Refusal}
 use Rattle.ledger.specs.declared.refusal.Refusal.TheVariants.{OutOfRange}
@@ -7,11 +7,11 @@ use Rattle.ledger.specs.declared.record.CommitRecord.{CommitRecord}
 use Rattle.ledger.specs.declared.call.Call.{Call}
 use Rattle.ledger.specs.declared.call.Answer.{Answer}
 use Rattle.ledger.specs.declared.call.Answer.TheVariants.{Refused}
-use Rattle.ledger.specs.Checks.{Ticket, site_check, spent_check, ticket_check, action_check, glance_check}
+use Rattle.ledger.specs.Checks.{Ticket, spent_check, ticket_check, action_check, glance_check}
 use Rattle.ledger.specs.Refusals.{first, when, checked, left}
 use Rattle.ledger.specs.Time.{site_of}
 use Rattle.ledger.proofs.Checks.{first_none}
-use Rattle.register.specs.State.{State, contents}
+use Rattle.register.specs.State.{State}
 use Rattle.register.specs.Calls.{Step, outcome, Outcome, Ends, guarded, refused, fit_check}
 
 pub guarded_some : {V : Type 0} (s : State) (k : Option Refusal) (done : Outcome V) (why : Refusal) → k ≡ Some why → guarded s k done ≡ refused s why

@@ -7,7 +7,7 @@ use Rattle.history.specs.Meaning.{Meaning, Op, Outcome, applied, cause_of, chain
 use Rattle.history.specs.Meaning.Op.{Find}
 use Rattle.history.proofs.Outcomes.{find_leaves}
 use Rattle.ledger.specs.declared.record.CommitRecord.{CommitRecord}
-use Rattle.register.specs.State.{State, Contents, contents, image_from, image_after}
+use Rattle.register.specs.State.{State, contents, image_from, image_after}
 use Rattle.register.specs.Settling.{Leaves}
 
 pub image_then : (writes : List ℕ → ℕ → Op → List ℕ) (bs : List ℕ) (o : ℕ) (a b : List Op)

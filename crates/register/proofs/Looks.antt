@@ -1,16 +1,14 @@
 -- Reads and glances.
-use Rattle.std.proofs.Common.{◌≡◌, ℕ, ◌<◌, leb, List, [], ◌∷◌, ◌++◌, length, get_or, set, Some, None, Option, sym, refl, ap, ◌∙◌, subst}
-use Rattle.std.proofs.lemmas.List.{set-set}
+use Rattle.std.proofs.Common.{◌≡◌, ℕ, leb, [], ◌∷◌, length, get_or, set, Some, None, Option, sym, refl, ap, ◌∙◌, subst}
 use Rattle.history.specs.declared.item.Item.{Item}
 use Rattle.history.specs.declared.item.Cause.TheVariants.{NoObject, OutOfRange}
 use Rattle.history.specs.Chain.{find_in, extend_in}
-use Rattle.history.specs.Meaning.{Meaning, Op, Outcome, either, too_large, cause_of, chain_of}
+use Rattle.history.specs.Meaning.{Meaning, Outcome, either, too_large, cause_of, chain_of}
 use Rattle.history.specs.Meaning.Op.{Find, Extend}
 use Rattle.history.proofs.Outcomes.{find_leaves}
 use Rattle.ledger.specs.declared.call.Answer.{Answer}
 use Rattle.ledger.specs.declared.call.Answer.TheVariants.{Refused, Wait, Value}
 use Rattle.ledger.specs.declared.refusal.Refusal.TheVariants.{NoForm}
-use Rattle.ledger.specs.declared.record.CommitRecord.{CommitRecord}
 use Rattle.register.specs.declared.meet.Sight.{Sight}
 use Rattle.register.specs.declared.meet.Sight.TheVariants.{Reads, Waits}
 use Rattle.register.specs.State.{State, Contents, contents, image_after}

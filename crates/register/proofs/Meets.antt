@@ -1,9 +1,9 @@
 -- The search that settles tokens on its way.
-use Rattle.std.proofs.Common.{◌≡◌, ℕ, zero, suc, ◌+◌, ◌<◌, ◌≤◌, Bool, true, false, cond, ◌||◌, List, [], ◌∷◌, ◌++◌, length, get_or, Some, None, Ok, Option, sym, refl, ap, ◌∙◌, subst, append_assoc, le_refl, arith}
+use Rattle.std.proofs.Common.{◌≡◌, ℕ, zero, suc, ◌<◌, ◌≤◌, Bool, true, false, cond, ◌||◌, List, [], ◌∷◌, ◌++◌, length, get_or, Some, None, Ok, Option, sym, refl, ap, ◌∙◌, subst, append_assoc, le_refl, arith}
 use Rattle.std.proofs.lemmas.Bool.{eq-eqb, or_parts, cond-false}
 use Rattle.history.specs.declared.item.Item.{Item}
 use Rattle.history.specs.Chain.{has_start, is_version, find_in, drop_in}
-use Rattle.history.specs.Meaning.{Sound, Op, Outcome, cause_of, chain_of, objects_of, FindAnswer}
+use Rattle.history.specs.Meaning.{Sound, Op, Outcome, cause_of, chain_of, FindAnswer}
 use Rattle.history.specs.Meaning.Op.{Find, Drop}
 use Rattle.history.proofs.Chains.{found_in}
 use Rattle.history.proofs.Members.{some_from, length_drop}

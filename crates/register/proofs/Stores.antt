@@ -1,9 +1,8 @@
 -- An update, which ends with one operation of the store.
-use Rattle.std.proofs.Common.{◌≡◌, ℕ, cond, List, [], ◌∷◌, set, Some, None, Ok, Err, Option, Result, sym, refl, ap, ◌∙◌, arith}
+use Rattle.std.proofs.Common.{◌≡◌, ℕ, cond, Some, None, Ok, Err, Option, sym, refl, ap, ◌∙◌, arith}
 use Rattle.history.specs.declared.item.Fault.{Fault}
 use Rattle.history.specs.declared.item.Cause.{Cause}
-use Rattle.history.specs.Chain.{put_in, fresh_item}
-use Rattle.history.specs.Meaning.{Meaning, Op, Outcome, answered, answer_by, cause_of, chain_of, chains_by, fault_of, image_by}
+use Rattle.history.specs.Meaning.{Meaning, Op, Outcome, answered, answer_by, cause_of, chains_by, fault_of, image_by}
 use Rattle.history.specs.Meaning.Op.{Put}
 use Rattle.history.proofs.Outcomes.{ok_accepted}
 use Rattle.ledger.specs.declared.record.Event.TheVariants.{Abort}
@@ -13,7 +12,7 @@ use Rattle.ledger.specs.declared.refusal.Refusal.{Refusal}
 use Rattle.ledger.specs.declared.call.Answer.{Answer}
 use Rattle.ledger.specs.declared.call.Answer.TheVariants.{Refused, Done}
 use Rattle.ledger.specs.Time.{site_of}
-use Rattle.register.specs.State.{State, Contents, contents, image_after}
+use Rattle.register.specs.State.{State, contents}
 use Rattle.ledger.specs.Checks.{Ticket, ticket_check, action_check, time_of}
 use Rattle.register.specs.Calls.{Step, outcome, update_by, fit_check, Outcome as CallOutcome}
 use Rattle.ledger.specs.Refusals.{refusal_of, aborts, first, left}

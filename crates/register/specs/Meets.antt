@@ -2,12 +2,11 @@
 use Rattle.std.specs.Prelude.{◌≡◌, ℕ, None, Option}
 use Rattle.history.specs.Meaning.{Meaning, cause_of}
 use Rattle.history.specs.Meaning.Op.{Extend}
-use Rattle.history.specs.declared.item.Item.{Item}
 use Rattle.register.specs.declared.meet.Sight.{Sight}
 use Rattle.register.specs.declared.meet.Sight.TheVariants.{Reads, Waits}
 use Rattle.register.specs.State.{State}
 use Rattle.ledger.specs.Checks.{Ticket}
-use Rattle.register.specs.Calls.{Met, Meeting, meeting}
+use Rattle.register.specs.Calls.{Met, meeting}
 use Rattle.register.specs.Calls.Met.{waits, reads}
 use Rattle.register.specs.Settling.{Leaves}
 

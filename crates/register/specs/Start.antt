@@ -1,5 +1,5 @@
 -- Whether a register may start over a store: no token, and every item ends before the first clock.
-use Rattle.std.specs.Prelude.{ℕ, ◌/◌, Bool, true, false, ◌&&◌, List, [], ◌∷◌, replicate, nat_le, nat_lt}
+use Rattle.std.specs.Prelude.{ℕ, ◌/◌, Bool, true, ◌&&◌, List, [], ◌∷◌, replicate, nat_le, nat_lt}
 use Rattle.history.specs.declared.item.Item.{Item}
 use Rattle.history.specs.Chain.{is_version}
 use Rattle.history.specs.Meaning.{Meaning}

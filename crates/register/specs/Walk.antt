@@ -1,5 +1,5 @@
 -- A walk over a chain, and how far it came.
-use Rattle.std.specs.Prelude.{ℕ, ◌+◌}
+use Rattle.std.specs.Prelude.{◌+◌}
 use Rattle.register.specs.declared.walk.Walk.{Walk}
 use Rattle.ledger.specs.declared.record.Standing.{Standing}
 use Rattle.ledger.specs.declared.record.Standing.TheVariants.{Open, Committed, Aborted}

@@ -1,5 +1,5 @@
 -- From what a row answers to what the store does.
-use Rattle.std.proofs.Common.{◌≡◌, ℕ, zero, suc, ◌+◌, ◌-◌, ◌<◌, ◌≤◌, true, ◌⊎◌, List, [], ◌∷◌, map, length, get_or, set, Some, None, Ok, Err, Option, Result, sym, refl, ap, ◌∙◌, subst, ⊎_elim, arith}
+use Rattle.std.proofs.Common.{◌≡◌, ℕ, zero, suc, ◌+◌, ◌-◌, ◌<◌, ◌≤◌, true, List, [], ◌∷◌, length, get_or, set, Some, Ok, Err, Option, Result, sym, refl, ap, ◌∙◌, subst, ⊎_elim, arith}
 use Rattle.std.proofs.lemmas.List.{get_or-map, map-set, length-map, get_or-set_same, get_or-set_other}
 use Rattle.std.proofs.lemmas.Bool.{cases_eq}
 use Rattle.history.specs.declared.item.Item.{Item}
@@ -7,7 +7,7 @@ use Rattle.history.specs.declared.item.Cause.{Cause}
 use Rattle.history.specs.declared.item.Cause.TheVariants.{NoObject}
 use Rattle.history.specs.declared.item.Fault.{Fault}
 use Rattle.history.specs.Chain.{some_item, has_start, find_in, nth_item, drop_in, put_in, fresh_item, Lawful}
-use Rattle.history.specs.Meaning.{Meaning, Sound, Op, Outcome, Rooms, FindAnswer, answered, applied, written, cause_in, cause_of, chain_of, given, objects_of}
+use Rattle.history.specs.Meaning.{Sound, Op, Outcome, Rooms, FindAnswer, answered, applied, written, cause_in, cause_of, chain_of, given, objects_of}
 use Rattle.history.specs.Meaning.Op.{Find, At, Extend, Put, Seal, Drop}
 use Rattle.history.proofs.Members.{length_put, length_drop}
 use Rattle.history.proofs.Outcomes.{refused_answer, refused_outcome, accepted_answer, accepted_outcome, no_object, cause_within, find_outcome, put_needs, drop_needs}

@@ -1,12 +1,11 @@
 -- A line is read as a call exactly if it spells it.
-use Rattle.std.proofs.Common.{◌≡◌, ℕ, ◌+◌, ◌<◌, ◌≤◌, Bool, true, false, cond, ◌&&◌, eqb, leb, ◌⊎◌, List, [], ◌∷◌, ◌++◌, length, get_or, take, drop, ℤ, pos, neg_ℤ, Some, None, Option, sym, refl, ap, ◌∙◌, subst, inl, inr, ⊎_elim, append-nil, arith}
+use Rattle.std.proofs.Common.{◌≡◌, ℕ, ◌<◌, ◌≤◌, true, false, cond, ◌&&◌, eqb, leb, List, [], ◌∷◌, ◌++◌, length, get_or, drop, pos, neg_ℤ, Some, Option, sym, refl, ap, ◌∙◌, subst, inl, inr, arith}
 use Rattle.std.specs.Str.Parse.{digits_value, starts_with_minus}
 use Rattle.std.specs.Char.{is_ascii_digit}
 use Rattle.std.specs.List.{prefix_len}
 use Rattle.std.specs.Str.{all_ascii_digits}
 use Rattle.std.proofs.lemmas.List.{take-append-drop, take_at, drop_at, nil_from_length}
-use Rattle.std.proofs.lemmas.Slice.{first_rest}
-use Rattle.std.proofs.lemmas.Bool.{and_parts, and_from, leb-true, le-leb, eqb-true, eq-eqb, ne_eqb, cond-true, cond-false, cond_both, not_from_false}
+use Rattle.std.proofs.lemmas.Bool.{and_parts, and_from, leb-true, le-leb, eqb-true, ne_eqb, cond-true, cond-false, cond_both, not_from_false}
 use Rattle.kinds.specs.declared.seats.Seats.{Seats}
 use Rattle.ledger.specs.declared.call.Call.{Call}
 use Rattle.ledger.specs.declared.call.Call.TheVariants.{Begin, Read, Update, Commit, Abort, Glance, Tick, Settle, Standing}
@@ -14,7 +13,7 @@ use Rattle.script.proofs.Numbers.{digit_range}
 use Rattle.script.proofs.Options.{some_is, never, after_is, cond_is}
 use Rattle.script.proofs.Values.{in_range, seats_value_is}
 use Rattle.script.specs.Format.{after, number_in, seats_of, value_in, differs, field, read_number, read_value, ended, one_number, two_numbers, three_numbers, update_in, call_by, call_of}
-use Rattle.script.specs.Spelling.{Field, plain, seats, letter, fields, Number, Negative, Text, Fields, Spells}
+use Rattle.script.specs.Spelling.{Field, plain, seats, letter, fields, Number, Text, Fields, Spells}
 
 -- from what is read to what is spelled
 

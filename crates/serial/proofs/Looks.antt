@@ -15,14 +15,14 @@ use Rattle.ledger.specs.Time.{stamp, is_spent, spent_at, pseudo, site_of}
 use Rattle.register.specs.State.{State, contents}
 use Rattle.ledger.specs.Records.{clock_at, take_stamp, fate, lower_for}
 use Rattle.ledger.specs.Checks.{Ticket, site_check, spent_check, ticket_check, time_of}
-use Rattle.register.specs.Calls.{Outcome, refused, fit_check, Met, waits, reads, nothing, Meeting, meeting, is_own, meet, meet_item, meet_fate, having_dropped, answer_met, answer_read, look, look_by, read, glance}
+use Rattle.register.specs.Calls.{Outcome, fit_check, Met, waits, reads, nothing, Meeting, meeting, is_own, meet, meet_item, meet_fate, having_dropped, answer_met, answer_read, look, look_by, read, glance}
 use Rattle.ledger.specs.Refusals.{first}
 use Rattle.history.specs.Members.{◌∈◌}
 use Rattle.serial.specs.Histories.{Access, gave, took, deed}
 use Rattle.serial.proofs.Invariant.{Setting, World, Lives, Timed, Inv}
 use Rattle.serial.proofs.Good.{Seen, seen, GoodAt, After, unless, by_option, by_fate, first_none, when_none, set_here, ticketed}
 use Rattle.history.specs.declared.item.Cause.TheVariants.{NoObject as NoObjectCause}
-use Rattle.history.specs.Chain.{is_version, find_in, seal_in, drop_in, extend_in, has_start, seal_item, raise, keep}
+use Rattle.history.specs.Chain.{is_version, find_in, seal_in, drop_in, extend_in, has_start, seal_item, raise}
 use Rattle.history.specs.Meaning.{Sound, chain_of, objects_of, cause_of, cause_in}
 use Rattle.history.specs.Meaning.Op.{Find}
 use Rattle.serial.specs.Histories.{select}

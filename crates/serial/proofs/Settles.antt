@@ -1,16 +1,15 @@
 -- Settle keeps the invariant
-use Rattle.std.proofs.Common.{◌≡◌, ℕ, ◌<◌, Bool, leb, List, [], ◌∷◌, ◌++◌, length, Some, None, Option, sym, refl, ap, ◌∙◌, subst, inl, inr, append_assoc, arith, leb-false}
+use Rattle.std.proofs.Common.{◌≡◌, ℕ, ◌<◌, Bool, leb, List, [], ◌∷◌, ◌++◌, length, None, sym, refl, ap, subst, inl, inr, append_assoc, arith, leb-false}
 use Rattle.history.specs.declared.item.Item.{Item}
-use Rattle.ledger.specs.declared.record.Standing.{Standing}
 use Rattle.ledger.specs.declared.record.Standing.TheVariants.{Open, Committed, Aborted}
 use Rattle.ledger.specs.declared.record.CommitRecord.{CommitRecord}
 use Rattle.ledger.specs.declared.call.Call.TheVariants.{Settle}
 use Rattle.register.specs.State.{State, contents}
-use Rattle.register.specs.Calls.{fit_check, Settling, settle_chain, settle_step, settle_by, settle}
+use Rattle.register.specs.Calls.{Settling, settle_chain, settle_step, settle_by, settle}
 use Rattle.history.specs.Members.{here, there}
 use Rattle.serial.specs.Histories.{Access, deed}
 use Rattle.serial.proofs.Invariant.{Setting}
-use Rattle.serial.proofs.Good.{Seen, seen, GoodAt, After, unless, by_option, by_fate}
+use Rattle.serial.proofs.Good.{seen, GoodAt, After, unless, by_option, by_fate}
 use Rattle.serial.proofs.Updates.{either_none}
 use lib.Seq.{set-get_or}
 use Rattle.std.proofs.lemmas.Bool.{cond_both}

@@ -3,7 +3,6 @@ use Rattle.std.proofs.Common.{◌≡◌, ℕ, suc, pred, ◌+◌, ◌*◌, ◌%�
 use borrow.Author.Tests.{eqb-false}
 use Rattle.std.proofs.lemmas.Bool.{or_parts, or_left, and_parts, not-false}
 use Rattle.history.specs.declared.item.Item.{Item}
-use Rattle.ledger.specs.declared.record.Standing.{Standing}
 use Rattle.ledger.specs.declared.record.Standing.TheVariants.{Open, Committed, Aborted}
 use Rattle.ledger.specs.declared.record.Event.{Event}
 use Rattle.ledger.specs.declared.record.Event.TheVariants.{Commit as CommitEvent, Abort as AbortEvent}
@@ -16,14 +15,14 @@ use Rattle.ledger.specs.Time.{is_spent, spent_at}
 use Rattle.register.specs.State.{State, contents}
 use Rattle.ledger.specs.Records.{clock_at, record_at, next, is_free, take_stamp, opened, concluded, change_record}
 use Rattle.ledger.specs.Checks.{Ticket, record_check, site_check, lifetime_check, spent_check}
-use Rattle.register.specs.Calls.{refused, fit_check, begin, conclude, tick, standing}
+use Rattle.register.specs.Calls.{fit_check, begin, conclude, tick, standing}
 use Rattle.ledger.specs.Refusals.{first, when}
 use Rattle.history.specs.Members.{◌∈◌}
 use Rattle.serial.specs.Histories.{Access, deed}
 use Rattle.serial.proofs.Invariant.{Setting, World, Inv, is_committed}
 use Rattle.serial.proofs.Moves.{change}
 use Rattle.serial.proofs.Ends.{begins, ends}
-use Rattle.serial.proofs.Good.{Seen, seen, world_of, GoodAt, After, unless, first_none, when_none, set_here, Ticketed, ticketed, set_up, set_top, set_agree}
+use Rattle.serial.proofs.Good.{seen, world_of, GoodAt, After, unless, first_none, when_none, set_here, Ticketed, ticketed, set_up, set_top, set_agree}
 
 unused_used : (u : Use) → Unused ≡ Used u → ⊥
 unused_used u e = let z : ◌≡◌ {A = ℕ} 0 1 = cc in omega arith

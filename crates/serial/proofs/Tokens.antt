@@ -19,7 +19,7 @@ use Rattle.history.specs.Members.{◌∈◌, here, there}
 use Rattle.serial.specs.Histories.{Access}
 use Rattle.history.proofs.Lists.{split_in}
 use Rattle.serial.proofs.Ends.{same_use}
-use Rattle.serial.proofs.Good.{cond_same, Seen, seen, world_of, GoodAt, set_here}
+use Rattle.serial.proofs.Good.{cond_same, world_of, GoodAt, set_here}
 
 -- places without one
 

@@ -1,5 +1,5 @@
 -- A register that is not fit refuses every call, so its histories tell nothing.
-use Rattle.std.proofs.Common.{◌≡◌, ℕ, Bool, true, false, ◌||◌, List, [], ◌∷◌, get_or, Some, Option, sym, refl, ap, ◌∙◌, subst}
+use Rattle.std.proofs.Common.{◌≡◌, ℕ, Bool, true, false, ◌||◌, List, [], ◌∷◌, get_or, Option, sym, refl, ap, ◌∙◌, subst}
 use Rattle.std.proofs.lemmas.Bool.{both_ways}
 use Rattle.history.specs.declared.item.Item.{Item}
 use Rattle.history.specs.Members.{◌∈◌, here}
@@ -13,10 +13,10 @@ use Rattle.ledger.specs.declared.call.Call.TheVariants.{Begin, Read, Update, Com
 use Rattle.ledger.specs.declared.call.Answer.TheVariants.{Refused}
 use Rattle.ledger.specs.declared.refusal.Refusal.{Refusal}
 use Rattle.ledger.specs.declared.refusal.Refusal.TheVariants.{NotFit}
-use Rattle.register.specs.State.{State, Contents, contents}
+use Rattle.register.specs.State.{State, Contents}
 use Rattle.register.specs.Calls.{Outcome, refused, outcome, Step}
 use Rattle.serial.specs.Histories.{Event, History, Deed, no_deed, deed, Access, accesses, accessed, clock_after, has_committed, commits}
-use Rattle.serial.specs.SerialOrder.{SerialOrder, stands_committed, table_before, found_at, number_of}
+use Rattle.serial.specs.SerialOrder.{SerialOrder, stands_committed, found_at, number_of}
 use Rattle.serial.proofs.Invariant.{Falling}
 use Rattle.serial.proofs.Table.{table_none}
 

@@ -12,11 +12,11 @@ use Rattle.ledger.specs.Time.{stamp, is_spent, spent_at, pseudo, site_of}
 use Rattle.register.specs.State.{State, contents}
 use Rattle.ledger.specs.Records.{clock_at, record_at, take_stamp, concluded, change_record, one_token_more}
 use Rattle.ledger.specs.Checks.{Ticket, spent_check, ticket_check, time_of}
-use Rattle.register.specs.Calls.{Outcome, fit_check, update, update_by}
+use Rattle.register.specs.Calls.{fit_check, update, update_by}
 use Rattle.history.specs.Members.{◌∈◌}
 use Rattle.serial.specs.Histories.{Access, took, deed}
 use Rattle.serial.proofs.Invariant.{Setting, Given, Timed}
-use Rattle.serial.proofs.Good.{Seen, seen, world_of, GoodAt, After, unless, by_option, first_none, when_none, set_here, Ticketed, ticketed, set_up, set_top, set_agree}
+use Rattle.serial.proofs.Good.{seen, world_of, GoodAt, After, unless, by_option, first_none, when_none, set_here, Ticketed, ticketed, set_up, set_top, set_agree}
 use Rattle.history.specs.declared.item.Cause.{Cause}
 use Rattle.history.specs.declared.item.Cause.TheVariants.{NoObject as NoObjectCause, OutOfRange as OutOfRangeCause, Overlap, NoRoom as NoRoomCause}
 use Rattle.history.specs.Chain.{some_item, covers, put_in}

@@ -6,7 +6,7 @@ use Rattle.ledger.specs.declared.call.Call.{Call}
 use Rattle.ledger.specs.declared.call.Answer.{Answer}
 use Rattle.register.specs.Kept.{Kept}
 use Rattle.register.specs.View.{view}
-use Rattle.serial.specs.Histories.{Event, History, Fit, Reached}
+use Rattle.serial.specs.Histories.{History, Fit, Reached}
 use Rattle.serial.specs.SerialOrder.{SerialOrder, found_at}
 
 module _ {S V : Type 0} (means : S → Meaning) (whole : S → Type 0) (form : V → ℕ) (parse : ℕ → Option V) where

@@ -1,4 +1,4 @@
-use Rattle.std.proofs.Common.{◌≡◌, ◌-◌, min, ◌++◌, length, take, drop, vec_items, sym, ap, ◌∙◌, inl}
+use Rattle.std.proofs.Common.{◌-◌, min, ◌++◌, length, take, drop, vec_items, sym, ap, ◌∙◌, inl}
 use native.Mathlib.Nat.{sub-zero}
 use Rattle.exported.proofs.buvzhanik_play.Goals as goal
 

@@ -1,5 +1,5 @@
-use Rattle.std.proofs.Common.{◌≡◌, ℕ, ◌<◌, ◌≤◌}
-use Rattle.history.specs.Meaning.{chain_of, objects_of}
+use Rattle.std.proofs.Common.{◌≡◌, ℕ, ◌<◌}
+use Rattle.history.specs.Meaning.{chain_of}
 use Rattle.history.specs.Alike.{versions}
 use Rattle.history.proofs.alike.alike.Given as goal
 

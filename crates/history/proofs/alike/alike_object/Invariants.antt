@@ -1,4 +1,4 @@
-use Rattle.std.proofs.Common.{◌≡◌, ◌<◌, ◌≤◌, length}
+use Rattle.std.proofs.Common.{◌<◌, ◌≤◌, length}
 use Rattle.history.specs.Meaning.{chain_of, objects_of}
 use Rattle.history.proofs.Versions.{Agree}
 use Rattle.history.proofs.alike.alike_object.Given as goal

@@ -1,5 +1,4 @@
 use Rattle.std.proofs.Common.{length}
-use Rattle.layout.specs.Laid.{after}
 use Rattle.layout.proofs.Rows.{cleared}
 use Rattle.layout.proofs.laying.clear.Goals as goal
 

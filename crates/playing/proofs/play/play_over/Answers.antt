@@ -1,4 +1,4 @@
-use Rattle.std.proofs.Common.{◌≡◌, IfOk, vec_items, ap, subst}
+use Rattle.std.proofs.Common.{IfOk, vec_items, ap, subst}
 use Rattle.std.proofs.lemmas.Result.{IfOk-weaker}
 use Rattle.history.specs.Meaning.{Meaning}
 use Rattle.encache.specs.Layer.{Whole}

@@ -1,6 +1,6 @@
-use Rattle.std.proofs.Common.{◌-◌, ◌∙◌}
+use Rattle.std.proofs.Common.{◌∙◌}
 use Rattle.history.specs.Meaning.Op.{Drop}
-use Rattle.chained.proofs.Soundness.{of_chain, dropped, refused}
+use Rattle.chained.proofs.Soundness.{dropped, refused}
 use Rattle.chained.proofs.store.ChainedStore.drop.Goals as goal
 
 pub invariant_of-self : goal.invariant_of-self

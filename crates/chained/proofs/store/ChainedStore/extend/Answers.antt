@@ -1,6 +1,6 @@
 use Rattle.std.proofs.Common.{◌∙◌}
 use Rattle.history.specs.Meaning.Op.{Extend}
-use Rattle.chained.proofs.Soundness.{of_chain, extended, refused}
+use Rattle.chained.proofs.Soundness.{extended, refused}
 use Rattle.chained.proofs.store.ChainedStore.extend.Goals as goal
 
 pub invariant_of-self : goal.invariant_of-self

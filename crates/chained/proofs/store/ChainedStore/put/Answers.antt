@@ -1,6 +1,6 @@
 use Rattle.std.proofs.Common.{◌∙◌, arith}
 use Rattle.history.specs.Meaning.Op.{Put}
-use Rattle.chained.proofs.Soundness.{of_chain, of_free, put_done, refused}
+use Rattle.chained.proofs.Soundness.{put_done, refused}
 use Rattle.chained.proofs.store.ChainedStore.put.Goals as goal
 
 pub invariant_of-self : goal.invariant_of-self

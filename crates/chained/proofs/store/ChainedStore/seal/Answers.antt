@@ -1,6 +1,6 @@
 use Rattle.std.proofs.Common.{◌∙◌}
 use Rattle.history.specs.Meaning.Op.{Seal}
-use Rattle.chained.proofs.Soundness.{of_chain, sealed, refused}
+use Rattle.chained.proofs.Soundness.{sealed, refused}
 use Rattle.chained.proofs.store.ChainedStore.seal.Goals as goal
 
 pub invariant_of-self : goal.invariant_of-self

@@ -1,7 +1,6 @@
-use Rattle.std.proofs.Common.{sym, refl, ◌∙◌, arith}
+use Rattle.std.proofs.Common.{sym, refl, ◌∙◌}
 use Rattle.chained.proofs.Meanings.{served_lawful, served_unlawful}
 use Rattle.chained.proofs.Soundness.{sound}
-use Rattle.layout.proofs.Parts.{header_parts, parts}
 use Rattle.chained.proofs.table.Chained.new.Goals as goal
 use Rattle.chained.proofs.table.Chained.new.Goals.{then-is_lawful, else-is_lawful}
 

@@ -3,7 +3,6 @@ use Rattle.history.specs.Meaning.Op.{Find}
 use Rattle.layout.specs.Layout.{item_at}
 use Rattle.chained.proofs.Meanings.{serves, no_object}
 use Rattle.chained.proofs.Causes.{find_late, find_clear}
-use Rattle.chained.proofs.Openings.{placed}
 use Rattle.chained.proofs.table.Chained.place.Goals as goal
 
 pub returns-then-object-self : goal.returns-then-object-self

@@ -1,7 +1,6 @@
-use Rattle.std.proofs.Common.{sym, ◌∙◌, arith}
+use Rattle.std.proofs.Common.{sym, ◌∙◌}
 use Rattle.std.proofs.lemmas.Bool.{cond-true, cond-false, eq-eqb, ne_eqb, le-leb, lt-leb, le-ltb}
-use Rattle.chained.proofs.Meanings.{serves}
-use Rattle.chained.proofs.Causes.{sought, put_cause}
+use Rattle.chained.proofs.Causes.{put_cause}
 use Rattle.chained.proofs.table.Chained.placed.Goals as goal
 
 pub returns-then-last-time : goal.returns-then-last-time

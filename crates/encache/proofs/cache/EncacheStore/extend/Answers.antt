@@ -1,4 +1,4 @@
-use Rattle.std.proofs.Common.{◌≡◌, ◌%◌, set, sym, refl, ap, subst, arith}
+use Rattle.std.proofs.Common.{◌%◌, set, sym, refl, ap, subst, arith}
 use Rattle.history.specs.Meaning.Op.{Extend}
 use Rattle.encache.specs.Lines.{Held}
 use Rattle.encache.proofs.Kept.{held_accepted, held_refused}

@@ -1,7 +1,6 @@
-use Rattle.std.proofs.Common.{◌≡◌, ◌+◌, ◌<◌, ◌≤◌, length, sym, ap, ◌∙◌, subst, arith, rules}
+use Rattle.std.proofs.Common.{◌≡◌, ◌+◌, rules}
 use Rattle.ledger.specs.Time.{site_of}
 use Rattle.ledger.specs.Records.{clock_at, record_at, one_token_more}
-use Rattle.ledger.specs.Ledger.{tokens_in, site_in}
 use Rattle.ledger.proofs.Checks.{first_none, record_range}
 use Rattle.ledger.proofs.Counts.{charged_fits}
 use Rattle.ledger.proofs.ledger.Ledger.count_token.Goals as goal

@@ -1,8 +1,6 @@
-use Rattle.std.proofs.Common.{◌≡◌, ℕ, zero, suc, ◌≤◌, get_or, replicate, sym, refl, ap, subst, zero-le}
+use Rattle.std.proofs.Common.{◌≡◌, ℕ, zero, suc, get_or, replicate, refl, zero-le}
 use Rattle.ledger.specs.declared.record.CommitRecord.{CommitRecord}
-use Rattle.ledger.specs.declared.record.CommitRecord.TheVariants.{Unused, Used}
-use Rattle.ledger.specs.Ledger.{tokens_in, site_in}
-use Rattle.ledger.specs.Records.{clock_at}
+use Rattle.ledger.specs.declared.record.CommitRecord.TheVariants.{Unused}
 use Rattle.ledger.proofs.ledger.Ledger.new.Goals as goal
 
 empty : (n k : ℕ) → get_or (replicate {A = CommitRecord} n Unused) k Unused ≡ Unused

@@ -1,4 +1,4 @@
-use Rattle.std.proofs.Common.{◌≡◌, pred, ◌-◌, ◌≤◌, length, sym, arith}
+use Rattle.std.proofs.Common.{pred, ◌-◌, ◌≤◌, length, sym, arith}
 use Rattle.std.proofs.lemmas.List.{get_or_past}
 use Rattle.std.proofs.lemmas.Bool.{ltb-false}
 use Rattle.ledger.specs.declared.record.CommitRecord.TheVariants.{Unused}

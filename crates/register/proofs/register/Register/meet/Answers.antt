@@ -1,5 +1,4 @@
-use Rattle.std.proofs.Common.{◌≡◌, ℕ, ◌+◌, ◌<◌, ◌≤◌, true, false, ◌||◌, refl, subst, arith}
-use Rattle.std.proofs.lemmas.Bool.{or_parts}
+use Rattle.std.proofs.Common.{◌≡◌, ℕ, true, false, ◌||◌, refl, subst, arith}
 use Rattle.history.specs.Chain.{is_version}
 use Rattle.register.specs.Calls.{is_own}
 use Rattle.register.specs.Settling.{Settles}

@@ -1,4 +1,3 @@
-use Rattle.std.proofs.Common.{refl}
 use Rattle.register.specs.View.{view}
 use Rattle.register.proofs.Settles.{settles_open}
 use Rattle.register.proofs.register.Register.settle_item.Goals as goal

@@ -1,5 +1,5 @@
 use Rattle.std.proofs.Common.{◌≡◌, Ok, Err, refl, subst}
-use Rattle.history.specs.Meaning.{Op, Outcome, answered}
+use Rattle.history.specs.Meaning.{Outcome, answered}
 use Rattle.history.specs.Meaning.Op.{Put}
 use Rattle.std.proofs.lemmas.Result.{err_from_is_err_and}
 use Rattle.ledger.specs.declared.call.Call.TheVariants.{Update}

@@ -1,4 +1,4 @@
-use Rattle.std.proofs.Common.{List, sym, ap, ◌∙◌}
+use Rattle.std.proofs.Common.{List, ap, ◌∙◌}
 use Rattle.history.specs.declared.item.Item.{Item}
 use Rattle.history.specs.Chain.{find_in}
 use Rattle.history.proofs.Chains.{find_some, none_some}

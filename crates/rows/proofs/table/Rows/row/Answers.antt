@@ -1,4 +1,3 @@
-use Rattle.std.proofs.Common.{arith}
 use Rattle.rows.proofs.Tabling.{chain_is}
 use Rattle.rows.proofs.table.Rows.row.Goals as goal
 
