@@ -1,6 +1,6 @@
 -- What bytes spell after a change of one object's chain and of the free chain.
 use Rattle.std.proofs.Common.{◌≡◌, ℕ, ◌+◌, ◌-◌, ◌<◌, ◌≤◌, true, cond, ◌&&◌, eqb, List, [], ◌∷◌, ◌++◌, map, length, get_or, set, None, sum_by, sym, refl, ap, ◌∙◌, subst, ⊎_elim, arith}
-use Rattle.std.specs.List.{AllByRecursion as All}
+use Rattle.std.specs.List.{AllByRecursion}
 use Rattle.std.proofs.lemmas.List.{ext_get_or, length-map, length-set, get_or-map, get_or-set_same, get_or-set_other}
 use Rattle.std.proofs.lemmas.List.Sums.{sum_by-set, sum_by-append, get_or-le-sum_by}
 use Rattle.std.proofs.lemmas.Bool.{cases_eq, cond-true, eq-eqb}
@@ -26,7 +26,7 @@ pub times_mid : (y : ℕ) (pre : List ℕ) (a : ℕ) (post : List ℕ) → times
 times_mid y pre a post = sum_by-append (λ k. cond (eqb y k) 1 0) pre (a ∷ post) ∙ ap (λ n. times y pre + n) (times_cons y a post)
 
 -- what holds of each record but x and a holds in a list that has neither
-pub all_but : (x a m : ℕ) (P : ℕ → Type 0) (ns : List ℕ) → Within m ns → times x ns ≡ 0 → times a ns ≡ 0 → ((j : ℕ) → 0 < j → (j ≡ x → ⊥) → (j ≡ a → ⊥) → P j) → All P ns
+pub all_but : (x a m : ℕ) (P : ℕ → Type 0) (ns : List ℕ) → Within m ns → times x ns ≡ 0 → times a ns ≡ 0 → ((j : ℕ) → 0 < j → (j ≡ x → ⊥) → (j ≡ a → ⊥) → P j) → AllByRecursion P ns
 all_but x a m P [] w zx za f = tt
 all_but x a m P (k ∷ ks) w zx za f =
     let cx = times_cons x k ks in
@@ -50,13 +50,13 @@ map_set f g xs o d x y l h e =
     (λ q. ap f (get_or-set_other xs o j x d q) ∙ h j c q ∙ sym (get_or-set_other (map g xs) o j y (f d) q ∙ get_or-map g xs j d (f d) c))
     (cases_eq j o))
 
-pub map_same : (bs cs ns : List ℕ) → All (λ y. item_at cs y ≡ item_at bs y) ns → map (item_at cs) ns ≡ map (item_at bs) ns
+pub map_same : (bs cs ns : List ℕ) → AllByRecursion (λ y. item_at cs y ≡ item_at bs y) ns → map (item_at cs) ns ≡ map (item_at bs) ns
 map_same bs cs [] h = refl
 map_same bs cs (k ∷ ks) h = ap (λ y. y ∷ map (item_at cs) ks) h.0 ∙ ap (λ ys. item_at bs k ∷ ys) (map_same bs cs ks h.1)
 
 -- runs
 
-pub run_kept : (bs cs : List ℕ) (m k : ℕ) (ns : List ℕ) → All (λ j. next_at cs j ≡ next_at bs j) ns → Run bs m k ns → Run cs m k ns
+pub run_kept : (bs cs : List ℕ) (m k : ℕ) (ns : List ℕ) → AllByRecursion (λ j. next_at cs j ≡ next_at bs j) ns → Run bs m k ns → Run cs m k ns
 run_kept bs cs m k [] h r = r
 run_kept bs cs m k (x ∷ xs) h r =
     let e : next_at cs k ≡ next_at bs k = ap (next_at cs) r.0 ∙ h.0 ∙ sym (ap (next_at bs) r.0) in
@@ -77,7 +77,7 @@ through bs m k (p ∷ pre) a post r =
     record { fore = ((omega arith, omega arith), t.fore); pos = t.pos; most = t.most; rest = t.rest }
 
 -- another run after a
-pub run_join : (bs cs : List ℕ) (m k : ℕ) (pre : List ℕ) (a : ℕ) (post ns : List ℕ) → Run bs m k (pre ++ (a ∷ post)) → All (λ j. next_at cs j ≡ next_at bs j) pre → Run cs m (next_at cs a) ns → Run cs m k (pre ++ (a ∷ ns))
+pub run_join : (bs cs : List ℕ) (m k : ℕ) (pre : List ℕ) (a : ℕ) (post ns : List ℕ) → Run bs m k (pre ++ (a ∷ post)) → AllByRecursion (λ j. next_at cs j ≡ next_at bs j) pre → Run cs m (next_at cs a) ns → Run cs m k (pre ++ (a ∷ ns))
 run_join bs cs m k [] a post ns r h t = (r.0, r.1, r.2, subst (λ j. Run cs m (next_at cs j) ns) (sym r.0) t)
 run_join bs cs m k (p ∷ pre) a post ns r h t =
     let e : next_at cs k ≡ next_at bs k = ap (next_at cs) r.0 ∙ h.0 ∙ sym (ap (next_at bs) r.0) in
@@ -87,7 +87,7 @@ run_join bs cs m k (p ∷ pre) a post ns r h t =
 pub blank_same : (bs cs : List ℕ) (k : ℕ) → item_at cs k ≡ item_at bs k → blank cs k ≡ blank bs k
 blank_same bs cs k e = ap (λ i. eqb i.start 0 && eqb i.«end» 0 && eqb i.mark 0 && eqb i.number 0) e
 
-pub blanks_same : (bs cs ns : List ℕ) → All (λ y. item_at cs y ≡ item_at bs y) ns → All (λ y. blank bs y ≡ true) ns → All (λ y. blank cs y ≡ true) ns
+pub blanks_same : (bs cs ns : List ℕ) → AllByRecursion (λ y. item_at cs y ≡ item_at bs y) ns → AllByRecursion (λ y. blank bs y ≡ true) ns → AllByRecursion (λ y. blank cs y ≡ true) ns
 blanks_same bs cs [] e h = tt
 blanks_same bs cs (n ∷ ns) e h = (blank_same bs cs n e.0 ∙ h.0, blanks_same bs cs ns e.1 h.1)
 
@@ -126,7 +126,7 @@ module _ (bs : List ℕ) (o : ℕ) (v : Serves bs o) where
         Run cs (records_in bs) (o + 1) ns →
         Run cs (records_in bs) (free_in cs) free →
         ((y : ℕ) → times y free + times y ns ≡ times y (path bs (free_in bs)) + times y (path bs (o + 1))) →
-        All (λ k. blank cs k ≡ true) free →
+        AllByRecursion (λ k. blank cs k ≡ true) free →
         map (item_at cs) ns ≡ applied (items bs (o + 1)) op →
         cause_in (items bs (o + 1)) (length (path bs (free_in bs))) op ≡ None →
         length free ≡ room_after op (length (path bs (free_in bs))) →
@@ -155,7 +155,7 @@ module _ (bs : List ℕ) (o : ℕ) (v : Serves bs o) where
         here : get_or css o [] ≡ ns
         here = get_or-set_same (paths bs) o ns [] inside
 
-        none : (P : ℕ → Type 0) → ((j : ℕ) → 0 < j → (j ≡ x → ⊥) → (j ≡ a → ⊥) → P j) → (j : ℕ) → j < length (paths bs) → (j ≡ o → ⊥) → All P (get_or (paths bs) j [])
+        none : (P : ℕ → Type 0) → ((j : ℕ) → 0 < j → (j ≡ x → ⊥) → (j ≡ a → ⊥) → P j) → (j : ℕ) → j < length (paths bs) → (j ≡ o → ⊥) → AllByRecursion P (get_or (paths bs) j [])
         none P f j l n =
             all_but x a (records_in bs) P (get_or (paths bs) j [])
             (trail_within bs (records_in bs) (j + 1) (get_or (paths bs) j []) 0 (represents.runs j (omega (arith, represents.count))))

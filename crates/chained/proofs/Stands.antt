@@ -1,6 +1,6 @@
 -- The law of the bytes.
 use Rattle.std.proofs.Common.{◌≡◌, ℕ, ◌+◌, ◌-◌, ◌^◌, ◌<◌, ◌≤◌, max, true, cond, ◌&&◌, ◌||◌, eqb, leb, List, [], ◌∷◌, ◌++◌, map, length, None, sym, refl, ap, ◌∙◌, subst, ⊎_elim, arith}
-use Rattle.std.specs.List.{AllByRecursion as All}
+use Rattle.std.specs.List.{AllByRecursion}
 use Rattle.std.proofs.lemmas.List.{set-get_or, map-append}
 use Rattle.std.proofs.lemmas.Bool.{cases_eq, eqb-true, eqb-false, leb-false, not-false}
 use Rattle.history.specs.declared.item.Item.{Item}
@@ -27,7 +27,7 @@ use Rattle.chained.proofs.Splits.{Slot, changes, map_changes, cut_items}
 use Rattle.chained.proofs.Moves.{times_self, times_mid, all_but, map_same, run_kept, Through, through, run_join, blanks_same, few, spells}
 use Rattle.chained.proofs.Openings as at
 
-map_mid : (bs cs pre : List ℕ) (a : ℕ) (ts : List ℕ) (y : Item) (zs : List Item) → All (λ j. item_at cs j ≡ item_at bs j) pre → item_at cs a ≡ y → map (item_at cs) ts ≡ zs → map (item_at cs) (pre ++ (a ∷ ts)) ≡ map (item_at bs) pre ++ (y ∷ zs)
+map_mid : (bs cs pre : List ℕ) (a : ℕ) (ts : List ℕ) (y : Item) (zs : List Item) → AllByRecursion (λ j. item_at cs j ≡ item_at bs j) pre → item_at cs a ≡ y → map (item_at cs) ts ≡ zs → map (item_at cs) (pre ++ (a ∷ ts)) ≡ map (item_at bs) pre ++ (y ∷ zs)
 map_mid bs cs [] a ts y zs h e f = ap (λ z. z ∷ map (item_at cs) ts) e ∙ ap (λ l. y ∷ l) f
 map_mid bs cs (p ∷ pre) a ts y zs h e f = ap (λ z. z ∷ map (item_at cs) (pre ++ (a ∷ ts))) h.0 ∙ ap (λ l. item_at bs p ∷ l) (map_mid bs cs pre a ts y zs h.1 e f)
 
@@ -35,7 +35,7 @@ module _ (bs : List ℕ) (o : ℕ) (v : Serves bs o) where
   spare : Run bs (records_in bs) (free_in bs) (path bs (free_in bs))
   spare = run_ends bs (records_in bs) (records_in bs) (free_in bs) (parts bs v.lawful).threads.spare
 
-  blanks : All (λ k. blank bs k ≡ true) (path bs (free_in bs))
+  blanks : AllByRecursion (λ k. blank bs k ≡ true) (path bs (free_in bs))
   blanks = each_parts _ _ (parts bs v.lawful).blanks
 
   -- the item of the record that starts at s is changed in place
@@ -76,11 +76,11 @@ module _ (bs : List ℕ) (o : ℕ) (v : Serves bs o) where
       here : 1 ≤ times k (path bs (free_in bs)) + times k (path bs (o + 1))
       here = omega (arith, count)
 
-      links : (ms : List ℕ) → All (λ j. next_at cs j ≡ next_at bs j) ms
+      links : (ms : List ℕ) → AllByRecursion (λ j. next_at cs j ≡ next_at bs j) ms
       links [] = tt
       links (j ∷ ms) = (⊎_elim (λ q. ap (next_at cs) q ∙ c.link ∙ sym (ap (next_at bs) q)) (λ n. c.nexts j n) (cases_eq j k), links ms)
 
-      same : (ms : List ℕ) → Within (records_in bs) ms → times k ms ≡ 0 → All (λ j. item_at cs j ≡ item_at bs j) ms
+      same : (ms : List ℕ) → Within (records_in bs) ms → times k ms ≡ 0 → AllByRecursion (λ j. item_at cs j ≡ item_at bs j) ms
       same ms w z = all_but k k (records_in bs) (λ j. item_at cs j ≡ item_at bs j) ms w z z (λ j _ n _. c.items j n)
 
   most : (k : ℕ) (ns : List ℕ) → Run bs (records_in bs) k ns → k ≤ records_in bs
@@ -107,7 +107,7 @@ module _ (bs : List ℕ) (o : ℕ) (v : Serves bs o) where
         (Links → Run cs (records_in bs) n1 post → Run cs (records_in bs) (next_at cs a) ts) →
         (Links → Run cs (records_in bs) n2 rest → Run cs (records_in bs) (free_in cs) free) →
         ((y : ℕ) → times y free + times y ts ≡ cond (eqb y x) 1 0 + (times y post + times y rest)) →
-        (Links → All (λ j. item_at cs j ≡ item_at bs j) rest → All (λ k. blank cs k ≡ true) free) →
+        (Links → AllByRecursion (λ j. item_at cs j ≡ item_at bs j) rest → AllByRecursion (λ k. blank cs k ≡ true) free) →
         (Links → map (item_at cs) post ≡ map (item_at bs) post → map (item_at cs) ts ≡ zs) →
         applied (items bs (o + 1)) op ≡ map (item_at bs) pre ++ (item_at bs a ∷ zs) →
         cause_in (items bs (o + 1)) (length (path bs (free_in bs))) op ≡ None →
@@ -155,10 +155,10 @@ module _ (bs : List ℕ) (o : ℕ) (v : Serves bs o) where
             relinked bs a x new next after first t.pos ix.0 apart (omega (arith, t.most, v.header.size)) (omega (arith, ix.1, v.header.size)) fits
             (omega (arith, bound.0, v.header.most)) (omega (arith, bound.1, v.header.most)) (omega (arith, bound.2, v.header.most))
 
-        links : (ms : List ℕ) → Within (records_in bs) ms → times x ms ≡ 0 → times a ms ≡ 0 → All (λ j. next_at cs j ≡ next_at bs j) ms
+        links : (ms : List ℕ) → Within (records_in bs) ms → times x ms ≡ 0 → times a ms ≡ 0 → AllByRecursion (λ j. next_at cs j ≡ next_at bs j) ms
         links ms w p q = all_but x a (records_in bs) (λ j. next_at cs j ≡ next_at bs j) ms w p q k.edited.nexts
 
-        same : (ms : List ℕ) → Within (records_in bs) ms → times x ms ≡ 0 → All (λ j. item_at cs j ≡ item_at bs j) ms
+        same : (ms : List ℕ) → Within (records_in bs) ms → times x ms ≡ 0 → AllByRecursion (λ j. item_at cs j ≡ item_at bs j) ms
         same ms w p = all_but x x (records_in bs) (λ j. item_at cs j ≡ item_at bs j) ms w p p (λ j l n _. k.edited.items j l n)
 
   -- an item starts at s
@@ -201,7 +201,7 @@ module _ (bs : List ℕ) (o : ℕ) (v : Serves bs o) where
       (λ k h. (k.linked, subst (λ j. 0 < j) (sym k.linked) first.pos, subst (λ j. j ≤ records_in bs) (sym k.linked) first.most, subst (λ j. Run (link bs a x new) (records_in bs) j s.post) (sym (ap (next_at (link bs a x new)) k.linked ∙ k.link)) h))
       (λ k h. subst (λ j. Run (link bs a x new) (records_in bs) j rest) (sym k.free) h)
       (λ y. omega (arith, times_cons y x s.post))
-      (λ k h. blanks_same bs (link bs a x new) rest h (subst (All (λ j. blank bs j ≡ true)) first.chain blanks).1)
+      (λ k h. blanks_same bs (link bs a x new) rest h (subst (AllByRecursion (λ j. blank bs j ≡ true)) first.chain blanks).1)
       (λ k h. ap (λ y. y ∷ map (item_at (link bs a x new)) s.post) k.item ∙ ap (λ ys. new ∷ ys) h)
       s.items clear (omega (arith, ap length first.chain))
 

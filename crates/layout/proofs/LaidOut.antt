@@ -1,6 +1,6 @@
 -- What bytes that are laid out anew represent.
 use Rattle.std.proofs.Common.{◌≡◌, ℕ, zero, suc, ◌+◌, ◌-◌, ◌*◌, ◌^◌, ◌<◌, ◌≤◌, true, cond, ◌&&◌, ltb, leb, List, [], ◌∷◌, ◌++◌, map, length, get_or, sum_by, sym, refl, ap, ◌∙◌, subst, ⊎_elim, zero-add, arith}
-use Rattle.std.specs.List.{range_with_len, flat_map, AllByRecursion as All}
+use Rattle.std.specs.List.{range_with_len, flat_map, AllByRecursion}
 use Rattle.std.proofs.lemmas.List.{ext_get_or, length-map, get_or-map, append_assoc, append-nil, length-append}
 use Rattle.std.proofs.lemmas.List.Sums.{sum_by-cons}
 use Rattle.std.proofs.lemmas.List.FromFn.{length-map-range_with_len, get_or-map-range_with_len}
@@ -136,7 +136,7 @@ module _ (n m : ℕ) (numbers : List ℕ) (f : Fit n m (32 * (m + 1)) (length nu
       subst (λ i. Run bs m i (range_with_len (k + 1) (suc t))) (sym a)
       (refl, omega arith, omega arith, subst (λ i. Run bs m i (range_with_len (k + 1 + 1) t)) (sym h.link) (run_free (k + 1) t (omega arith) (omega arith)))
 
-  blanks : (a t : ℕ) → n < a → a + t ≤ m + 1 → All (λ k. blank bs k ≡ true) (range_with_len a t)
+  blanks : (a t : ℕ) → n < a → a + t ≤ m + 1 → AllByRecursion (λ k. blank bs k ≡ true) (range_with_len a t)
   blanks a zero l h = tt
   blanks a (suc t) l h = (ap vacant (free a l (omega arith)).item, blanks (a + 1) t (omega arith) (omega arith))
 

@@ -1,6 +1,6 @@
 -- The lists of record numbers that bytes represent.
 use Rattle.std.proofs.Common.{◌≡◌, ℕ, ◌+◌, ◌<◌, Bool, true, List, [], ◌∷◌, map, length, get_or, sum_by, sym, refl, ap, ◌∙◌, subst, zero-add, arith}
-use Rattle.std.specs.List.{AllByRecursion as All}
+use Rattle.std.specs.List.{AllByRecursion}
 use Rattle.std.proofs.lemmas.List.Sums.{get_or-le-sum_by}
 use Rattle.std.proofs.ByRecursion.{All-from_get_or}
 use Rattle.std.proofs.lemmas.List.FromFn.{length-map-range_with_len, get_or-map-range_with_len, fill_by_all}
@@ -18,14 +18,14 @@ pub record Represents (bs : List ℕ) (css : List (List ℕ)) (free : List ℕ) 
   pub runs : (o : ℕ) → o < objects_in bs → Run bs (records_in bs) (o + 1) (get_or css o [])
   pub spare : Run bs (records_in bs) (free_in bs) free
   pub once : (k : ℕ) → k < records_in bs → times (k + 1) free + sum_by (times (k + 1)) css ≡ 1
-  pub blanks : All (λ k. blank bs k ≡ true) free
+  pub blanks : AllByRecursion (λ k. blank bs k ≡ true) free
   pub rules : (o : ℕ) → o < objects_in bs → history (map (item_at bs) (get_or css o [])) ≡ true
 
-pub each_parts : (ks : List ℕ) (t : ℕ → Bool) → each_of ks t ≡ true → All (λ k. t k ≡ true) ks
+pub each_parts : (ks : List ℕ) (t : ℕ → Bool) → each_of ks t ≡ true → AllByRecursion (λ k. t k ≡ true) ks
 each_parts [] t h = tt
 each_parts (k ∷ ks) t h = let p = and_parts (t k) (each_of ks t) h in (p.0, each_parts ks t p.1)
 
-pub each_from : (ks : List ℕ) (t : ℕ → Bool) → All (λ k. t k ≡ true) ks → each_of ks t ≡ true
+pub each_from : (ks : List ℕ) (t : ℕ → Bool) → AllByRecursion (λ k. t k ≡ true) ks → each_of ks t ≡ true
 each_from [] t h = refl
 each_from (k ∷ ks) t h = and_from (t k) (each_of ks t) h.0 (each_from ks t h.1)
 
@@ -94,6 +94,6 @@ same bs css free r = record { paths = ps; spare = f.0; lawful = law }
                 spare = f.1;
                 once = below_from _ _ (λ k l. eq-eqb (uses bs (k + 1)) 1 (used k ∙ r.once k l));
               };
-          blanks = each_from _ _ (subst (All (λ k. blank bs k ≡ true)) (sym f.0) r.blanks);
+          blanks = each_from _ _ (subst (AllByRecursion (λ k. blank bs k ≡ true)) (sym f.0) r.blanks);
           rules = below_from _ _ (λ o l. ap (λ ns. history (map (item_at bs) ns)) (one o l).0 ∙ r.rules o l);
         })

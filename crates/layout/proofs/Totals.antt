@@ -1,6 +1,6 @@
 -- Lists in which each of the numbers 1 to m occurs once have m elements together.
 use Rattle.std.proofs.Common.{◌≡◌, ℕ, zero, suc, ◌+◌, ◌<◌, ◌≤◌, cond, eqb, leb, List, [], ◌∷◌, length, sum_by, refl, ◌∙◌, arith}
-use Rattle.std.specs.List.{AllByRecursion as All}
+use Rattle.std.specs.List.{AllByRecursion}
 use Rattle.std.proofs.lemmas.List.Sums.{sum_by-cons}
 use Rattle.std.proofs.lemmas.Bool.Decides.{nat_tests}
 use Rattle.std.proofs.lemmas.Bool.{le-leb, cond-true}
@@ -35,7 +35,7 @@ total_one zero x p = grind (arith, nat_tests)
 total_one (suc m) x p = let q = total_one m x p in grind (arith, nat_tests)
 
 abbrev pub Within : ℕ → List ℕ → Type 0
-Within m ns = All (λ x. (0 < x) × (x ≤ m)) ns
+Within m ns = AllByRecursion (λ x. (0 < x) × (x ≤ m)) ns
 
 pub times_cons : (k x : ℕ) (xs : List ℕ) → times k (x ∷ xs) ≡ cond (eqb k x) 1 0 + times k xs
 times_cons k x xs = sum_by-cons (λ y. cond (eqb k y) 1 0) x xs
@@ -49,7 +49,7 @@ total_times m (x ∷ xs) w =
     let c : total m (λ k. times (k + 1) xs) ≡ length xs = total_times m xs w.1 in
     omega (arith, total_plus m (λ k. cond (eqb (k + 1) x) 1 0) (λ k. times (k + 1) xs))
 
-pub total_all : (m : ℕ) (css : List (List ℕ)) → All (Within m) css → total m (λ k. sum_by (times (k + 1)) css) ≡ sum_by length css
+pub total_all : (m : ℕ) (css : List (List ℕ)) → AllByRecursion (Within m) css → total m (λ k. sum_by (times (k + 1)) css) ≡ sum_by length css
 total_all m [] w = total_none m
 total_all m (ns ∷ css) w =
     let a : total m (λ k. sum_by (times (k + 1)) (ns ∷ css)) ≡ total m (λ k. times (k + 1) ns + sum_by (times (k + 1)) css) =

@@ -3,7 +3,7 @@ use Rattle.std.proofs.Common.{◌≡◌, ℕ, suc, ◌≤◌, true, List, [], �
 use lib.Signed.{mag}
 use Rattle.std.specs.Str.Parse.{digits_value}
 use Rattle.std.specs.Fmt.{signed_decimal}
-use Rattle.std.specs.List.{AllByRecursion as All}
+use Rattle.std.specs.List.{AllByRecursion}
 use Rattle.std.specs.Str.{all_ascii_digits}
 use Rattle.std.proofs.lemmas.Fmt.{decimal_nonempty, length-decimal-le, digits_decimal, digits_value-decimal}
 use Rattle.std.proofs.lemmas.Str.Parse.{IsNumeralModel, numerals_by_value, tells_all_ascii_digits}
@@ -34,12 +34,12 @@ abbrev Short : Field → Type 0
 Short (plain n) = Fits (plain n)
 Short (seats z) = mag z ≤ 32767
 
-spaced_fields : (fs : List Field) → All Short fs → Fields (spaced fs) fs
+spaced_fields : (fs : List Field) → AllByRecursion Short fs → Fields (spaced fs) fs
 spaced_fields [] h = refl
 spaced_fields (plain n ∷ fs) h = (decimal n, spaced fs, refl, decimal_number n h.0, spaced_fields fs h.1)
 spaced_fields (seats z ∷ fs) h = (signed_decimal z, spaced fs, refl, signed_text z h.0, spaced_fields fs h.1)
 
-short : (c : Call Seats) → All Fits (fields c) → All Short (fields c)
+short : (c : Call Seats) → AllByRecursion Fits (fields c) → AllByRecursion Short (fields c)
 short (Begin r site lifetime) h = h
 short (Read t o) h = h
 short (Update t o v) h = (h.0, (h.1.0, (h.1.1.0, (seats_mag v, tt))))
@@ -50,5 +50,5 @@ short (Tick site clock) h = h
 short (Settle o) h = h
 short (Standing r) h = h
 
-pub own_line : (c : Call Seats) → All Fits (fields c) → Spells (line_of c) c
+pub own_line : (c : Call Seats) → AllByRecursion Fits (fields c) → Spells (line_of c) c
 own_line c h = (spaced (fields c), refl, spaced_fields (fields c) (short c h))

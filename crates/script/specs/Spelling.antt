@@ -2,7 +2,7 @@
 use Rattle.std.specs.Prelude.{◌≡◌, ℕ, ◌≤◌, true, ◌⊎◌, List, [], ◌∷◌, ◌++◌, length, ℤ, pos, neg_ℤ, Some, decimal}
 use Rattle.std.specs.Str.Parse.{digits_value}
 use Rattle.std.specs.Fmt.{signed_decimal}
-use Rattle.std.specs.List.{AllByRecursion as All}
+use Rattle.std.specs.List.{AllByRecursion}
 use Rattle.std.specs.Str.{all_ascii_digits}
 use Rattle.kinds.specs.declared.seats.Seats.{Seats}
 use Rattle.ledger.specs.declared.call.Call.{Call}
@@ -89,5 +89,5 @@ Fits (seats z) = Unit {0}
 pub record LinesStand : Type 0 where
   pub reads : (line : List ℕ) (c : Call Seats) → call_of line ≡ Some c → Spells line c
   pub spells : (line : List ℕ) (c : Call Seats) → Spells line c → call_of line ≡ Some c
-  pub back : (c : Call Seats) → All Fits (fields c) → call_of (line_of c) ≡ Some c
+  pub back : (c : Call Seats) → AllByRecursion Fits (fields c) → call_of (line_of c) ≡ Some c
   pub prints : (a : Answer Seats) (rest : List ℕ) → lines (printed a ++ rest) ≡ shown a ∷ lines rest
