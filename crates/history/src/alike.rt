@@ -48,8 +48,8 @@ fn next_version<S: Store>(s: &S, object: u32, place: u32) -> Option<Version>
 
 // Whether an object has the same versions in both stores.
 fn alike_object<A: Store, B: Store>(a: &A, b: &B, object: u32) -> bool
-    requires sound { A.Store.whole a.now → Sound (A.Store.means a.now) }
-    requires sound_2 { B.Store.whole b.now → Sound (B.Store.means b.now) }
+    requires a_sound { A.Store.whole a.now → Sound (A.Store.means a.now) }
+    requires b_sound { B.Store.whole b.now → Sound (B.Store.means b.now) }
     ensures { A.Store.whole a.now → B.Store.whole b.now → object < objects_of (A.Store.means a.now) → object < objects_of (B.Store.means b.now) → Decides result (versions (chain_of (A.Store.means a.now) object) ≡ versions (chain_of (B.Store.means b.now) object)) }
 {
     let mut i: u32 = 0;

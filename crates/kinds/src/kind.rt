@@ -17,7 +17,7 @@ pub trait Kind: Sized {
     fn from_form(number: u64) -> Option<Self>
         ensures { result ≡ parse number };
 
-    // The constant, told to contracts, which cannot cite it.
+    // The constant, told to contracts by the ghost member.
     fn greatest_form() -> u64
         ensures { result ≡ greatest };
 
