@@ -2,7 +2,9 @@ pub mod Lists
 pub mod Chains
 pub mod Members
 pub mod Laws
+pub mod Bounded
 pub mod Outcomes
 pub mod Finds
-pub mod Pushes
 pub mod Versions
+pub mod Ranges
+pub mod Compared

@@ -6,7 +6,7 @@ use Rattle.history.specs.declared.item.Item.{Item}
 use Rattle.history.specs.declared.item.Cause.{Cause}
 use Rattle.history.specs.declared.item.Cause.TheVariants.{NoObject}
 use Rattle.history.specs.declared.item.Fault.{Fault}
-use Rattle.history.specs.Meaning.{Meaning, Sound, Op, Outcome, answer_by, chains_by, image_by, RoomsBy, answered, applied, written, either, cause_of, chain_of, cause_in, fault_of, no_start, objects_of, too_large, version_at, Rooms}
+use Rattle.history.specs.Meaning.{Meaning, Op, Outcome, answer_by, chains_by, image_by, RoomsBy, answered, applied, written, either, cause_of, chain_of, cause_in, fault_of, no_start, objects_of, too_large, version_at, Rooms}
 use Rattle.history.specs.Chain.{some_item, has_start, starts_within, covers}
 use Rattle.history.specs.Meaning.Op.{Find, Extend, Put, Seal, Drop}
 
@@ -24,13 +24,12 @@ find_rooms : (m : Meaning) (o p : ℕ) (q : Option Cause) → RoomsBy m o (Find 
 find_rooms m o p None = λ k. refl
 find_rooms m o p (Some c) = λ k. refl
 
-pub find_outcome : (m : Meaning) (o p : ℕ) → Sound m → Outcome m o (Find p) m
-find_outcome m o p s = record {
+pub find_outcome : (m : Meaning) (o p : ℕ) → Outcome m o (Find p) m
+find_outcome m o p = record {
   chains = sym (find_chains m o p (cause_of m o (Find p)));
   rooms = find_rooms m o p (cause_of m o (Find p));
   image = sym (find_image m o p (cause_of m o (Find p)));
   writes = refl;
-  sound = (s, s);
 }
 
 pub find_leaves : (m n : Meaning) (o p : ℕ) → Outcome m o (Find p) n → n.chains ≡ m.chains
@@ -60,13 +59,12 @@ err_chains m o op a f = by (cause_of m o op)
 pub refused_answer : {A : Type 0} (m : Meaning) (o : ℕ) (op : Op) (a : A) (c : Cause) → cause_of m o op ≡ Some c → Err (fault_of m o op c) ≡ answered m o op a
 refused_answer m o op a c e = sym (ap (answer_by m o op a) e)
 
-pub refused_outcome : (m : Meaning) (o : ℕ) (op : Op) (c : Cause) → Sound m → cause_of m o op ≡ Some c → Outcome m o op m
-refused_outcome m o op c s e = record {
+pub refused_outcome : (m : Meaning) (o : ℕ) (op : Op) (c : Cause) → cause_of m o op ≡ Some c → Outcome m o op m
+refused_outcome m o op c e = record {
   chains = sym (ap (chains_by m o op) e);
   rooms = subst (RoomsBy m o op m.room) (sym e) (λ k. refl);
   image = sym (ap (image_by m o op) e);
   writes = refl;
-  sound = (s, s);
 }
 
 -- and one that is not
@@ -83,7 +81,6 @@ pub record Accepted (m : Meaning) (o : ℕ) (op : Op) (n : Meaning) : Type 0 whe
   pub rooms : Rooms op o m.room n.room
   pub image : n.image ≡ written m o op
   pub writes : n.writes ≡ m.writes
-  pub sound : Sound m × Sound n
 
 pub accepted_outcome : (m n : Meaning) (o : ℕ) (op : Op) → cause_of m o op ≡ None → Accepted m o op n → Outcome m o op n
 accepted_outcome m n o op e a = record {
@@ -91,7 +88,6 @@ accepted_outcome m n o op e a = record {
   rooms = subst (RoomsBy m o op n.room) (sym e) a.rooms;
   image = a.image ∙ sym (ap (image_by m o op) e);
   writes = a.writes;
-  sound = a.sound;
 }
 
 -- by the object

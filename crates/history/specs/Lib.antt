@@ -3,3 +3,4 @@ pub mod Meaning
 pub mod Laws
 pub mod Alike
 pub mod Members
+pub mod Versions

@@ -85,6 +85,10 @@ cause_of m o op = either (nat_le (objects_of m) o) NoObject (cause_in (chain_of 
 abbrev pub fault_of : Meaning → ℕ → Op → Cause → Fault
 fault_of m o op c = record { cause = c; object = o; time = given op; level = m.origin c o }
 
+-- the fault of a store that lies on no other
+abbrev pub bottom_fault : Cause → ℕ → ℕ → Fault
+bottom_fault c o p = record { cause = c; object = o; time = p; level = 0 }
+
 -- a chain after an accepted operation
 abbrev pub applied : List Item → Op → List Item
 applied xs (Find p) = xs
@@ -138,10 +142,9 @@ abbrev pub FindAnswer : Meaning → ℕ → ℕ → Result Item Fault → Type 0
 FindAnswer m o p (Ok x) = (cause_of m o (Find p) ≡ None) × (find_in (chain_of m o) p ≡ Some x)
 FindAnswer m o p (Err f) = (c : Cause) × (cause_of m o (Find p) ≡ Some c) × (f ≡ fault_of m o (Find p) c)
 
--- what an operation leaves of a sound meaning m: a sound meaning n
+-- what an operation leaves of a meaning m: a meaning n
 pub record Outcome (m : Meaning) (o : ℕ) (op : Op) (n : Meaning) : Type 0 where
   pub chains : n.chains ≡ chains_by m o op (cause_of m o op)
   pub rooms : RoomsBy m o op n.room (cause_of m o op)
   pub image : n.image ≡ image_by m o op (cause_of m o op)
   pub writes : n.writes ≡ m.writes
-  pub sound : Sound m × Sound n
