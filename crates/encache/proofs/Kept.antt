@@ -1,7 +1,8 @@
 -- That the lines stay right, as the chains below change.
-use Rattle.std.proofs.Common.{◌≡◌, ℕ, ◌%◌, ◌<◌, true, false, ◌&&◌, eqb, List, [], map, length, get_or, set, Some, None, Ok, Err, Option, Result, sym, refl, ap, ◌∙◌, subst, ⊎_elim, arith}
+use Rattle.std.proofs.Common.{◌≡◌, ℕ, ◌%◌, ◌<◌, Bool, true, false, cond, ◌&&◌, eqb, List, [], map, length, get_or, set, Some, None, Ok, Err, Option, Result, sym, refl, ap, ◌∙◌, subst, ⊎_elim, arith}
 use Rattle.std.proofs.lemmas.List.{get_or-set_same, get_or-set_other, get_or_past, set-get_or}
 use Rattle.std.proofs.lemmas.Bool.{cond-true, cond-false, cond_both, cases_Bool, cases_lt, cases_eq, and_parts, and_from, and_cases, eqb-true, eqb-false, eq-eqb, leb-true, both_ways, not_from_false}
+use Rattle.std.specs.Bool.{MatchBool}
 use Rattle.history.specs.declared.item.Item.{Item}
 use Rattle.history.specs.declared.item.Fault.{Fault}
 use Rattle.history.specs.Chain.{has_start, covers, extends, seals, put_in, drop_in, find_in, fresh_item}
@@ -13,7 +14,7 @@ use Rattle.history.proofs.Chains.{in_keep, in_put_old, found_in, found_covering,
 use Rattle.history.proofs.Members.{has_from, has_is}
 use Rattle.history.proofs.Outcomes.{find_accepted, find_leaves, ok_accepted, err_chains, accepted_chains}
 use Rattle.encache.specs.declared.line.Line.{Line}
-use Rattle.encache.specs.Lines.{Lines, line_of, line_ok, full, Held, hit_line, changed_line, cleared_line, lines_after, lines_by}
+use Rattle.encache.specs.Lines.{Lines, line_of, line_ok, full, Held, hit_line, ChangedBy, changed_line, cleared_line, lines_after}
 
 in_range : (chains : List (List Item)) (o : ℕ) (x : Item) → x ∈ get_or chains o [] → o < length chains
 in_range chains o x i = ⊎_elim (λ l. l) (λ l. absurd (elim (subst (λ zs. x ∈ zs) (get_or_past chains o [] l) i) [ ])) (cases_lt o (length chains))
@@ -145,6 +146,11 @@ hit_is o p (Some l) x e =
 pub hit_stays : (lines : Lines) (o p : ℕ) (x : Item) → Some x ≡ hit_line o p (line_of lines o) → lines ≡ set lines (o % 8) (full o x)
 hit_stays lines o p x e = sym (ap (set lines (o % 8)) (hit_is o p (line_of lines o) x e) ∙ set-get_or lines (o % 8) None)
 
-pub put_lines : (lines : Lines) (o p mark n : ℕ) (r : Result (Unit {0}) Fault) → lines ≡ lines_by lines o (Put p mark n) r
-put_lines lines o p mark n (Ok done) = refl
-put_lines lines o p mark n (Err f) = refl
+-- a line changed by a call that computes f
+pub changed_by : (f : Item → Item) (o : ℕ) (l r : Option Line) {change : Item → Item → Type 0} → ChangedBy change o l r → ((x y : Item) → change x y → y ≡ f x) → r ≡ changed_line o f l
+changed_by f o None r h is = h
+changed_by f o (Some l) r {change} h is = by (eqb l.object o) h
+  where
+    by : (b : Bool) → MatchBool b ((x : Item) × change l.item x × (r ≡ full o x)) (r ≡ Some l) → r ≡ cond b (full o (f l.item)) (Some l)
+    by true k = k.2 ∙ ap (full o) (is l.item k.0 k.1)
+    by false k = k

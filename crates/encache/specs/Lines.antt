@@ -1,5 +1,5 @@
 -- What the lines of a cache hold, and how each operation changes one.
-use Rattle.std.specs.Prelude.{◌≡◌, ℕ, ◌%◌, Bool, true, cond, ◌&&◌, List, [], Some, None, Ok, Err, Option, Result, ◌==◌, slice_index_or, slice_set}
+use Rattle.std.specs.Prelude.{◌≡◌, ℕ, ◌%◌, Bool, true, cond, ◌&&◌, List, [], Some, None, Ok, Err, Option, Result, ◌==◌, slice_index_or, slice_set, replicate, MatchBool}
 use Rattle.history.specs.declared.item.Item.{Item}
 use Rattle.history.specs.declared.item.Fault.{Fault}
 use Rattle.history.specs.Chain.{has_item, has_start, covers, extends, seals}
@@ -9,6 +9,14 @@ use Rattle.encache.specs.declared.line.Line.{Line}
 
 abbrev pub Lines : Type 0
 Lines = List (Option Line)
+
+-- a cache as callers see it: the store below, and the lines
+pub record Cached (S : Type 0) : Type 0 where
+  pub below : S
+  pub lines : Lines
+
+abbrev pub empty_lines : Lines
+empty_lines = replicate 8 None
 
 -- the line that an object uses
 abbrev pub line_of : Lines → ℕ → Option Line
@@ -34,6 +42,11 @@ hit_line o p (Some l) = cond (l.object == o && covers p l.item) (Some l.item) No
 abbrev pub changed_line : ℕ → (Item → Item) → Option Line → Option Line
 changed_line o f None = None
 changed_line o f (Some l) = cond (l.object == o) (full o (f l.item)) (Some l)
+
+-- the same, where `change` relates an item to what it is changed to
+abbrev pub ChangedBy : (Item → Item → Type 0) → ℕ → Option Line → Option Line → Type 0
+ChangedBy change o None r = r ≡ None
+ChangedBy change o (Some l) r = MatchBool (l.object == o) ((x : Item) × change l.item x × (r ≡ full o x)) (r ≡ Some l)
 
 -- a line that is emptied if its item is of the object and has the start
 abbrev pub cleared_line : ℕ → ℕ → Option Line → Option Line

@@ -1,27 +1,43 @@
-ghost use Rattle.std.specs.Prelude.{◌≡◌, ◌+◌, min, List};
-ghost use Rattle.history.specs.declared.item.Item.{Item};
-ghost use Rattle.history.specs.Meaning.{FindAnswer, Sound, answered};
+ghost use Rattle.std.specs.Prelude.{◌≡◌, ◌+◌, ◌%◌, min};
+ghost use Rattle.history.specs.Meaning.{FindAnswer, Outcome, answered};
 ghost use Rattle.history.specs.Meaning.Op.{Find, Extend, Put, Seal, Drop};
-ghost use Rattle.encache.specs.Lines.{Held, Spared, line_of, lines_found, lines_by};
-ghost use Rattle.encache.specs.Layer.{Whole, Leaves};
+ghost use Rattle.encache.specs.Lines.{line_of, lines_found, lines_by, Spared, empty_lines};
 
-use crate::line::{Line, cleared, extended, filled, hit, sealed_line};
+use crate::line::{Line, changed, cleared, hit};
 use history::item::{Fault, Item};
 use history::store::Store;
+use std::marker::Model;
+
+const LINES: u32 = 8;
 
 // A layer over a store: line o mod 8 holds the item of object o that was found last.
 #[derive(Drop)]
-pub struct Encache<S> {
+pub struct Encache<S: Store> {
     below: S,
     lines: [Option<Line>; 8],
+}
+
+// Each line is empty or holds an item of its object's chain below.
+impl<S: Store> Model for Encache<S> {
+    ghost use Rattle.encache.specs.Lines.{Cached, Held};
+
+    ghost Value = { Cached S };
+
+    ghost view = { λ s. record { below = s.below; lines = s.lines } };
+
+    ghost invariant = { λ s. Held (S.Store.means s.below).chains s.lines };
+}
+
+fn line_number(object: u32) -> usize
+    ensures { result ≡ object % 8 }
+{
+    (object % LINES) as usize
 }
 
 impl<S: Store> Encache<S> {
     // With empty lines, which are right over any chains.
     pub fn over(below: S) -> Self
-        ensures below { result.below ≡ below }
-        ensures lines { (chains : List (List Item)) → Held chains result.lines }
-        ensures whole { S.Store.whole below → Sound (S.Store.means below) → Whole S.Store.means S.Store.whole result }
+        ensures { result ≡ record { below = below; lines = empty_lines } }
     {
         Encache {
             below,
@@ -32,8 +48,6 @@ impl<S: Store> Encache<S> {
 
 impl<S: Store> Store for Encache<S> {
     ghost means = { λ s. S.Store.means s.below };
-
-    ghost whole = { Whole S.Store.means S.Store.whole };
 
     ghost height = { λ s. min (S.Store.height s.below + 1) 255 };
 
@@ -46,22 +60,18 @@ impl<S: Store> Store for Encache<S> {
     }
 
     fn find(&mut self, object: u32, time: u64) -> Result<Item, Fault>
-        ensures answer { Whole S.Store.means S.Store.whole self.old → FindAnswer (S.Store.means self.old.below) object time result }
-        ensures after { Leaves S.Store.means S.Store.whole self.old object (Find time) self.new }
+        ensures answer { FindAnswer (S.Store.means self.old.below) object time result }
+        ensures after { Outcome (S.Store.means self.old.below) object (Find time) (S.Store.means self.new.below) }
         ensures lines { self.new.lines ≡ lines_found self.old.lines object result }
         ensures spared { Spared object time (line_of self.old.lines object) result self.old.below self.new.below }
     {
-        let k = (object % 8) as usize;
+        let k = line_number(object);
         if let Some(item) = hit(self.lines[k], object, time) {
             return Ok(item);
         }
-        match self.below.find(object, time) {
-            Ok(item) => {
-                self.lines[k] = filled(object, item);
-                Ok(item)
-            }
-            Err(fault) => Err(fault),
-        }
+        let item = self.below.find(object, time)?;
+        self.lines[k] = Some(Line { object, item });
+        Ok(item)
     }
 
     fn at(&self, object: u32, place: u32) -> Result<Option<Item>, Fault> {
@@ -69,55 +79,45 @@ impl<S: Store> Store for Encache<S> {
     }
 
     fn extend(&mut self, object: u32, start: u64, time: u64) -> Result<(), Fault>
-        ensures answer { Whole S.Store.means S.Store.whole self.old → result ≡ answered (S.Store.means self.old.below) object (Extend start time) tt }
-        ensures after { Leaves S.Store.means S.Store.whole self.old object (Extend start time) self.new }
+        ensures answer { result ≡ answered (S.Store.means self.old.below) object (Extend start time) tt }
+        ensures after { Outcome (S.Store.means self.old.below) object (Extend start time) (S.Store.means self.new.below) }
         ensures lines { self.new.lines ≡ lines_by self.old.lines object (Extend start time) result }
     {
-        match self.below.extend(object, start, time) {
-            Ok(done) => {
-                let k = (object % 8) as usize;
-                self.lines[k] = extended(self.lines[k], object, start, time);
-                Ok(done)
-            }
-            Err(fault) => Err(fault),
-        }
+        self.below.extend(object, start, time)?;
+        let k = line_number(object);
+        self.lines[k] = changed(self.lines[k], object, |item| item.extended(start, time));
+        Ok(())
     }
 
     fn put(&mut self, object: u32, time: u64, mark: u8, number: u64) -> Result<(), Fault>
-        ensures answer { Whole S.Store.means S.Store.whole self.old → result ≡ answered (S.Store.means self.old.below) object (Put time mark number) tt }
-        ensures after { Leaves S.Store.means S.Store.whole self.old object (Put time mark number) self.new }
+        ensures answer { result ≡ answered (S.Store.means self.old.below) object (Put time mark number) tt }
+        ensures after { Outcome (S.Store.means self.old.below) object (Put time mark number) (S.Store.means self.new.below) }
         ensures lines { self.new.lines ≡ lines_by self.old.lines object (Put time mark number) result }
     {
         self.below.put(object, time, mark, number)
     }
 
     fn seal(&mut self, object: u32, start: u64) -> Result<(), Fault>
-        ensures answer { Whole S.Store.means S.Store.whole self.old → result ≡ answered (S.Store.means self.old.below) object (Seal start) tt }
-        ensures after { Leaves S.Store.means S.Store.whole self.old object (Seal start) self.new }
+        ensures answer { result ≡ answered (S.Store.means self.old.below) object (Seal start) tt }
+        ensures after { Outcome (S.Store.means self.old.below) object (Seal start) (S.Store.means self.new.below) }
         ensures lines { self.new.lines ≡ lines_by self.old.lines object (Seal start) result }
     {
-        match self.below.seal(object, start) {
-            Ok(done) => {
-                let k = (object % 8) as usize;
-                self.lines[k] = sealed_line(self.lines[k], object, start);
-                Ok(done)
-            }
-            Err(fault) => Err(fault),
-        }
+        self.below.seal(object, start)?;
+        let k = line_number(object);
+        self.lines[k] = changed(self.lines[k], object, |item| item.sealed(start));
+        Ok(())
     }
 
     fn drop(&mut self, object: u32, start: u64) -> Result<(), Fault>
-        ensures answer { Whole S.Store.means S.Store.whole self.old → result ≡ answered (S.Store.means self.old.below) object (Drop start) tt }
-        ensures after { Leaves S.Store.means S.Store.whole self.old object (Drop start) self.new }
+        ensures answer { result ≡ answered (S.Store.means self.old.below) object (Drop start) tt }
+        ensures after { Outcome (S.Store.means self.old.below) object (Drop start) (S.Store.means self.new.below) }
         ensures lines { self.new.lines ≡ lines_by self.old.lines object (Drop start) result }
     {
-        match self.below.drop(object, start) {
-            Ok(done) => {
-                let k = (object % 8) as usize;
-                self.lines[k] = cleared(self.lines[k], object, start);
-                Ok(done)
-            }
-            Err(fault) => Err(fault),
-        }
+        self.below.drop(object, start)?;
+        let k = line_number(object);
+        self.lines[k] = cleared(self.lines[k], object, start);
+        Ok(())
     }
+
+    ghost sound = { λ s. S.Store.sound s.below };
 }

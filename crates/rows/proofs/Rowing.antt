@@ -1,45 +1,44 @@
--- A row's history, taken out of its ghost field and put back.
-use Rattle.std.proofs.Common.{◌≡◌, ℕ, ◌<◌, Bool, List, length, Some, None, Ok, Err, Option, sym, refl, ap, ◌∙◌, subst, ⊎_elim, arith}
-use mathlib.Core.Logic.{∥∥₁_elim}
-use Rattle.std.proofs.lemmas.List.{length-take-le}
+-- A row under an operation that a check let pass.
+use Rattle.std.proofs.Common.{◌≡◌, ℕ, ◌<◌, ◌≤◌, List, length, Some, None, Ok, Option, refl, sym, subst, ⊎_elim, arith}
+use Rattle.std.proofs.lemmas.Bool.{cases_lt}
+use Rattle.std.proofs.lemmas.List.{length-map}
 use Rattle.history.specs.declared.item.Item.{Item}
 use Rattle.history.specs.declared.item.Cause.{Cause}
-use Rattle.history.specs.Chain.{some_item, Lawful}
+use Rattle.history.specs.Chain.{Lawful, extends, seals, fresh_item}
 use Rattle.history.specs.Meaning.{Op, applied}
-use Rattle.history.specs.Meaning.Op.{Put}
-use Rattle.history.proofs.Outcomes.{put_needs}
-use Rattle.std.proofs.lemmas.Bool.{cases_lt}
-use Rattle.history.proofs.Laws.{lawful_prop}
+use Rattle.history.specs.Meaning.Op.{Find, At, Extend, Put, Seal, Drop}
+use Rattle.history.proofs.Outcomes.{put_needs, drop_needs}
+use Rattle.history.proofs.Bounded.{lawful_from}
 use Rattle.history.proofs.Finds.{histories_stand_lem}
+use Rattle.history.proofs.Members.{length_put, length_drop}
 use Rattle.rows.specs.declared.row.Row.{Row}
-use Rattle.rows.specs.Rowed.{row_chain, row_room, row_cause, verdict}
+use Rattle.rows.specs.Rowed.{row_chain, row_room, row_verdict, verdict}
 
-pub is_lawful : (r : Row) → Lawful (row_chain r)
-is_lawful r = ∥∥₁_elim r.lawful (lawful_prop (row_chain r)) (λ a. a)
-
--- the chain of a row that an accepted operation makes
-pub stays_lawful : (r : Row) (op : Op) (ys : List Item) → row_cause r op ≡ None → ys ≡ applied (row_chain r) op → ∥ Lawful ys ∥₁
-stays_lawful r op ys e is = ∣ subst Lawful (sym is) (histories_stand_lem (row_chain r) _ op (is_lawful r) e).lawful ∣₁
-
-pub chain_length : (r : Row) → length (row_chain r) ≡ r.count
-chain_length r = length-take-le r.count r.items (omega (arith, r.short, r.wide))
-
--- what a scan said, of the row's chain
-pub told : (t : Item → Bool) (b : Bool) (xs ys : List Item) → b ≡ some_item t xs → xs ≡ ys → some_item t ys ≡ b
-told t b xs ys e same = sym (e ∙ ap (some_item t) same)
-
--- what a check said
 pub passed : (q : Option Cause) → Ok tt ≡ verdict q → q ≡ None
 passed None e = refl
 passed (Some c) e = let z : ◌≡◌ {A = ℕ} 0 1 = cc in absurd (omega arith)
 
-pub turned_down : (q : Option Cause) (c : Cause) → Err c ≡ verdict q → q ≡ Some c
-turned_down None c e = let z : ◌≡◌ {A = ℕ} 0 1 = cc in absurd (omega arith)
-turned_down (Some d) c e = cc
-
-pub room_left : (r : Row) (p mark n : ℕ) → row_cause r (Put p mark n) ≡ None → r.count < 8
+room_left : (r : Row) (p mark n : ℕ) → Ok tt ≡ row_verdict r (Put p mark n) → length (row_chain r) < 8
 room_left r p mark n e =
-    let some = (put_needs (row_chain r) (row_room r) p mark n e).room_left in
-    let long = chain_length r in
-    let most = r.short in
-    ⊎_elim (λ lt. lt) (λ ge. absurd (some (omega arith))) (cases_lt r.count 8)
+    let some = (put_needs (row_chain r) (row_room r) p mark n (passed _ e)).room_left in
+    ⊎_elim (λ lt. lt) (λ ge. absurd (some (omega arith))) (cases_lt (length (row_chain r)) 8)
+
+stays_short : (r : Row) (op : Op) → Ok tt ≡ row_verdict r op → length (applied (row_chain r) op) ≤ 8
+stays_short r (Find p) e = r.short
+stays_short r At e = r.short
+stays_short r (Extend s p) e = let n = length-map (row_chain r) (extends s p) in omega (arith, r.short)
+stays_short r (Put p mark num) e = let n = length_put (row_chain r) (fresh_item p mark num) in let left = room_left r p mark num e in omega arith
+stays_short r (Seal s) e = let n = length-map (row_chain r) (seals s) in omega (arith, r.short)
+stays_short r (Drop s) e =
+    let n = length_drop (row_chain r) s (drop_needs (row_chain r) (row_room r) s (passed _ e)).there in omega (arith, r.short)
+
+-- the rules of rows, at what an operation left
+pub record Kept (ys : List Item) : Type 0 where
+  pub short : length ys ≤ 8
+  pub lawful : ∥ Lawful ys ∥₁
+
+pub kept : (r : Row) (op : Op) (ys : List Item) → Ok tt ≡ row_verdict r op → ys ≡ applied (row_chain r) op → Kept ys
+kept r op ys e is = record {
+  short = subst (λ zs. length zs ≤ 8) (sym is) (stays_short r op e);
+  lawful = ∣ subst Lawful (sym is) (histories_stand_lem (row_chain r) _ op (lawful_from (row_chain r) r.lawful) (passed _ e)).lawful ∣₁;
+}

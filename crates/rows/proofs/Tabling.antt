@@ -1,153 +1,102 @@
 -- From what a row answers to what the store does.
-use Rattle.std.proofs.Common.{◌≡◌, ℕ, zero, suc, ◌+◌, ◌-◌, ◌<◌, ◌≤◌, true, List, [], ◌∷◌, length, get_or, set, Some, Ok, Err, Option, Result, sym, refl, ap, ◌∙◌, subst, ⊎_elim, arith}
-use Rattle.std.proofs.lemmas.List.{get_or-map, map-set, length-map, get_or-set_same, get_or-set_other}
+use Rattle.std.proofs.Common.{◌≡◌, ℕ, zero, suc, ◌+◌, ◌-◌, ◌<◌, ◌≤◌, List, [], ◌∷◌, length, get_or, set, replicate, None, Ok, Err, Result, sym, refl, ap, ◌∙◌, subst, ⊎_elim, arith}
+use Rattle.std.proofs.lemmas.List.{get_or-map, map-set, length-map, get_or-set_same, get_or-set_other, set-get_or}
 use Rattle.std.proofs.lemmas.Bool.{cases_eq}
 use Rattle.history.specs.declared.item.Item.{Item}
 use Rattle.history.specs.declared.item.Cause.{Cause}
-use Rattle.history.specs.declared.item.Cause.TheVariants.{NoObject}
-use Rattle.history.specs.declared.item.Fault.{Fault}
-use Rattle.history.specs.Chain.{some_item, has_start, find_in, nth_item, drop_in, put_in, fresh_item, Lawful}
-use Rattle.history.specs.Meaning.{Sound, Op, Outcome, Rooms, FindAnswer, answered, applied, written, cause_in, cause_of, chain_of, given, objects_of}
+use Rattle.history.specs.Chain.{drop_in, put_in, fresh_item}
+use Rattle.history.specs.Meaning.{Op, Outcome, Rooms, applied, written, cause_in, cause_of, chain_of, objects_of}
 use Rattle.history.specs.Meaning.Op.{Find, At, Extend, Put, Seal, Drop}
+use Rattle.history.proofs.Bounded.{each_short}
 use Rattle.history.proofs.Members.{length_put, length_drop}
-use Rattle.history.proofs.Outcomes.{refused_answer, refused_outcome, accepted_answer, accepted_outcome, no_object, cause_within, find_outcome, put_needs, drop_needs}
+use Rattle.history.proofs.Outcomes.{refused_outcome, accepted_outcome, cause_within, put_needs, drop_needs}
 use Rattle.rows.specs.declared.row.Row.{Row}
 use Rattle.rows.specs.declared.table.Rows.{Rows}
-use Rattle.rows.specs.Rowed.{row_chain, row_room, row_cause, RowAnswer, RowFound}
-use Rattle.rows.specs.Tabled.{rows_means, means_in, chains_in, bottom_fault, RowOf, Stored}
-use Rattle.rows.proofs.Rowing.{is_lawful, chain_length}
+use Rattle.rows.specs.Rowed.{row_chain, row_cause, RowChanged}
+use Rattle.rows.specs.Tabled.{meaning, rows_means, chains_in}
 
-pub objects_are : (s : Rows) → objects_of (rows_means s) ≡ 32
-objects_are s = length-map s.rows row_chain ∙ s.many
+unwritten : (chains : List (List Item)) (o : ℕ) (op : Op) → [] ≡ written (meaning chains) o op
+unwritten chains o (Find p) = refl
+unwritten chains o At = refl
+unwritten chains o (Extend s p) = refl
+unwritten chains o (Put p mark n) = refl
+unwritten chains o (Seal s) = refl
+unwritten chains o (Drop s) = refl
 
-pub chain_is : (s : Rows) (o : ℕ) (d : Row) → o < 32 → chain_of (rows_means s) o ≡ row_chain (get_or s.rows o d)
-chain_is s o d h = get_or-map row_chain s.rows o d [] (let n = s.many in omega arith)
+-- how the rooms move, where an object's chain becomes ys
+module _ (chains : List (List Item)) (o : ℕ) (within : o < length chains) (ys : List Item) where
+  -- every room, from the rooms of this object and of the others
+  rooms_by : (P : ℕ → ℕ → Type 0) → P ((meaning chains).room o) (8 - length ys) → ((r : ℕ) → P r r) → (k : ℕ) → P ((meaning chains).room k) ((meaning (set chains o ys)).room k)
+  rooms_by P here there k =
+      ⊎_elim
+      (λ e. subst (λ i. P ((meaning chains).room i) ((meaning (set chains o ys)).room i)) (sym e) (subst (λ (zs : List Item). P ((meaning chains).room o) (8 - length zs)) (sym (get_or-set_same chains o ys [] within)) here))
+      (λ ne. subst (λ (zs : List Item). P ((meaning chains).room k) (8 - length zs)) (sym (get_or-set_other chains o k ys [] ne)) (there ((meaning chains).room k)))
+      (cases_eq k o)
 
-all_lawful : (rows : List Row) (o : ℕ) → o < length (chains_in rows) → Lawful (get_or (chains_in rows) o [])
-all_lawful [] o h = absurd (omega arith)
-all_lawful (r ∷ rs) zero h = is_lawful r
-all_lawful (r ∷ rs) (suc o) h = all_lawful rs o (omega arith)
+  here_is : (meaning (set chains o ys)).room o ≡ 8 - length ys
+  here_is = ap (λ (zs : List Item). 8 - length zs) (get_or-set_same chains o ys [] within)
 
-all_short : (rows : List Row) (o : ℕ) → length (get_or (chains_in rows) o []) ≤ 8
-all_short [] o = omega arith
-all_short (r ∷ rs) zero = let n = chain_length r in omega (arith, r.short)
-all_short (r ∷ rs) (suc o) = all_short rs o
+  -- the chain stays as long as it was
+  rooms_still : length ys ≡ length (get_or chains o []) → (k : ℕ) → (meaning (set chains o ys)).room k ≡ (meaning chains).room k
+  rooms_still same = rooms_by (λ r t. t ≡ r) (ap (λ i. 8 - i) same) (λ r. refl)
 
-pub rows_sound : (s : Rows) → Sound (rows_means s)
-rows_sound s = record {
-  few = let n = objects_are s in omega arith;
-  lawful = λ o h. all_lawful s.rows o h;
-  bounded = λ o h. let n = all_short s.rows o in omega arith;
-}
+rooms : (chains : List (List Item)) (o : ℕ) (op : Op) → o < length chains → length (get_or chains o []) ≤ 8 → cause_in (get_or chains o []) ((meaning chains).room o) op ≡ None → Rooms op o (meaning chains).room (meaning (set chains o (applied (get_or chains o []) op))).room
+rooms chains o (Find q) within short passes = rooms_still chains o within _ refl
+rooms chains o At within short passes = rooms_still chains o within _ refl
+rooms chains o (Extend st q) within short passes = rooms_still chains o within _ (length-map (get_or chains o []) _)
+rooms chains o (Seal st) within short passes = rooms_still chains o within _ (length-map (get_or chains o []) _)
+rooms chains o (Put q mark num) within short passes =
+    let xs = get_or chains o [] in
+    let ys = put_in xs (fresh_item q mark num) in
+    let longer = length_put xs (fresh_item q mark num) in
+    let left : (meaning chains).room o ≡ 0 → ⊥ = (put_needs xs ((meaning chains).room o) q mark num passes).room_left in
+    let one : 8 - length ys + 1 ≡ (meaning chains).room o = taken ((meaning chains).room o) left (omega arith) in
+    (ap (λ k. k + 1) (here_is chains o within ys) ∙ one, rooms_by chains o within ys (λ r t. (t ≤ r) × (r ≤ t + 1)) (omega arith, omega arith) (λ r. (omega arith, omega arith)))
+  where
+    taken : {t : ℕ} (r : ℕ) → (r ≡ 0 → ⊥) → t ≡ r - 1 → t + 1 ≡ r
+    taken r nz e = omega arith
+rooms chains o (Drop st) within short passes =
+    let xs = get_or chains o [] in
+    let shorter = length_drop xs st (drop_needs xs ((meaning chains).room o) st passes).there in
+    (let here = here_is chains o within (drop_in xs st) in omega (arith, here, shorter, short), rooms_by chains o within (drop_in xs st) (λ r t. r ≤ t) (omega (arith, shorter, short)) (λ r. omega arith))
 
--- what an operation that changes a chain answers and leaves
-pub record Done (s : Rows) (o : ℕ) (op : Op) (r : Result (Unit {0}) Fault) (n : Rows) : Type 0 where
-  pub answer : r ≡ answered (rows_means s) o op tt
-  pub after : Outcome (rows_means s) o op (rows_means n)
+-- a row's change is the store's
+pub changed : (s : Rows) (o k : ℕ) (op : Op) (d now : Row) (r : Result (Unit {0}) Cause) → o < 32 → k ≡ o → RowChanged (get_or s.rows k d) op r now → Outcome (rows_means s) o op (meaning (chains_in (set s.rows k now)))
+changed s o k op d now r within at = by r
+  where
+    was : Row
+    was = get_or s.rows k d
 
-unwritten : (s n : Rows) (o : ℕ) (op : Op) → (rows_means n).image ≡ written (rows_means s) o op
-unwritten s n o (Find p) = refl
-unwritten s n o At = refl
-unwritten s n o (Extend st p) = refl
-unwritten s n o (Put p mark num) = refl
-unwritten s n o (Seal st) = refl
-unwritten s n o (Drop st) = refl
+    chain : chain_of (rows_means s) o ≡ row_chain was
+    chain = get_or-map row_chain s.rows o d [] (let m = s.many in omega arith) ∙ ap (λ (i : ℕ). row_chain (get_or s.rows i d)) (sym at)
 
-no_row : (s : Rows) (o : ℕ) (op : Op) → 32 ≤ o → cause_of (rows_means s) o op ≡ Some NoObject
-no_row s o op h = no_object (rows_means s) o op (let n = objects_are s in omega arith)
+    chains : (ys : List Item) → row_chain now ≡ ys → chains_in (set s.rows k now) ≡ set (chains_in s.rows) o ys
+    chains ys e = map-set row_chain s.rows k now ∙ ap (λ (i : ℕ). set (chains_in s.rows) i (row_chain now)) at ∙ ap (set (chains_in s.rows) o) e
 
-pub past_objects : (s : Rows) (o : ℕ) (op : Op) (f : Fault) (r : Result (Unit {0}) Fault) → RowOf s o (given op) (Err f) → r ≡ Err f → Done s o op r s
-past_objects s o op f r e is =
-    let cause = no_row s o op e.0 in
-    record { answer = is ∙ ap Err e.1 ∙ refused_answer (rows_means s) o op tt NoObject cause; after = refused_outcome (rows_means s) o op NoObject (rows_sound s) cause }
+    there : o < objects_of (rows_means s)
+    there = let m : objects_of (rows_means s) ≡ 32 = length-map s.rows row_chain ∙ s.many in omega arith
 
-module _ (s : Rows) (o p : ℕ) (row : Row) (of : RowOf s o p (Ok row)) where
-  pub cause_row : (op : Op) → cause_of (rows_means s) o op ≡ row_cause row op
-  cause_row op =
-      cause_within (rows_means s) o op (let n = objects_are s in let h = of.0 in omega arith) ∙ ap (λ (xs : List Item). cause_in xs (8 - length xs) op) of.1
+    cause : cause_of (rows_means s) o op ≡ row_cause was op
+    cause = cause_within (rows_means s) o op there ∙ ap (λ (xs : List Item). cause_in xs (8 - length xs) op) chain
 
-  module _ (n : Rows) (now : Row) (op : Op) (is : n.rows ≡ set s.rows o now) (a : RowAnswer row op (Ok now)) where
-    chains_now : chains_in n.rows ≡ set (chains_in s.rows) o (applied (chain_of (rows_means s) o) op)
-    chains_now =
-        ap chains_in is ∙ map-set row_chain s.rows o now ∙ ap (set (chains_in s.rows) o) (a.1 ∙ ap (λ (xs : List Item). applied xs op) (sym of.1))
-
-    room_here : (rows_means n).room o ≡ 8 - length (applied (chain_of (rows_means s) o) op)
-    room_here =
-        ap (λ (cs : List (List Item)). 8 - length (get_or cs o [])) chains_now ∙ ap (λ (xs : List Item). 8 - length xs) (get_or-set_same (chains_in s.rows) o (applied (chain_of (rows_means s) o) op) [] (let k = objects_are s in let h = of.0 in omega arith))
-
-    room_there : (k : ℕ) → (k ≡ o → ⊥) → (rows_means n).room k ≡ (rows_means s).room k
-    room_there k ne =
-        ap (λ (cs : List (List Item)). 8 - length (get_or cs k [])) chains_now ∙ ap (λ (xs : List Item). 8 - length xs) (get_or-set_other (chains_in s.rows) o k (applied (chain_of (rows_means s) o) op) [] ne)
-
-    -- every room, from the rooms of this object and of the others
-    rooms_by : (P : ℕ → ℕ → Type 0) → P ((rows_means s).room o) ((rows_means n).room o) → ((r : ℕ) → P r r) → (k : ℕ) → P ((rows_means s).room k) ((rows_means n).room k)
-    rooms_by P here there k =
-        ⊎_elim (λ e. subst (λ i. P ((rows_means s).room i) ((rows_means n).room i)) (sym e) here) (λ ne. subst (P ((rows_means s).room k)) (sym (room_there k ne)) (there ((rows_means s).room k))) (cases_eq k o)
-
-    -- the chain stays as long as it was
-    rooms_still : length (applied (chain_of (rows_means s) o) op) ≡ length (chain_of (rows_means s) o) → (k : ℕ) → (rows_means n).room k ≡ (rows_means s).room k
-    rooms_still same = rooms_by (λ r t. t ≡ r) (room_here ∙ ap (λ i. 8 - i) same) (λ r. refl)
-
-  rooms : (n : Rows) (now : Row) (op : Op) → n.rows ≡ set s.rows o now → RowAnswer row op (Ok now) → Rooms op o (rows_means s).room (rows_means n).room
-  rooms n now (Find q) is a = rooms_still n now (Find q) is a refl
-  rooms n now At is a = rooms_still n now At is a refl
-  rooms n now (Extend st q) is a = rooms_still n now (Extend st q) is a (length-map (chain_of (rows_means s) o) _)
-  rooms n now (Seal st) is a = rooms_still n now (Seal st) is a (length-map (chain_of (rows_means s) o) _)
-  rooms n now (Put q mark num) is a =
-      let here : (rows_means n).room o ≡ 8 - length (put_in (chain_of (rows_means s) o) (fresh_item q mark num)) = room_here n now (Put q mark num) is a in
-      let longer = length_put (chain_of (rows_means s) o) (fresh_item q mark num) in
-      let left = (put_needs (row_chain row) (row_room row) q mark num a.0).room_left in
-      let some : (rows_means s).room o ≡ 0 → ⊥ = λ z. left (sym (ap (λ (xs : List Item). 8 - length xs) of.1) ∙ z) in
-      let one : (rows_means n).room o + 1 ≡ (rows_means s).room o = taken ((rows_means s).room o) some (omega arith) in
-      (one, rooms_by n now (Put q mark num) is a (λ r t. (t ≤ r) × (r ≤ t + 1)) (omega arith, omega arith) (λ r. (omega arith, omega arith)))
-    where
-      taken : {t : ℕ} (r : ℕ) → (r ≡ 0 → ⊥) → t ≡ r - 1 → t + 1 ≡ r
-      taken r nz e = omega arith
-  rooms n now (Drop st) is a =
-      let here : (rows_means n).room o ≡ 8 - length (drop_in (chain_of (rows_means s) o) st) = room_here n now (Drop st) is a in
-      let there = (drop_needs (row_chain row) (row_room row) st a.0).there in
-      let shorter = length_drop (chain_of (rows_means s) o) st (subst (λ l. some_item (has_start st) l ≡ true) (sym of.1) there) in
-      let most = all_short s.rows o in
-      (omega (arith, here, shorter, most), rooms_by n now (Drop st) is a (λ r t. r ≤ t) (omega (arith, here, shorter, most)) (λ r. omega arith))
-
-  -- the row's answer is the store's
-  pub done : (op : Op) (q : ℕ) (changed : Result Row Cause) (r : Result (Unit {0}) Fault) (n : Rows) → given op ≡ q → RowAnswer row op changed → Stored s o q changed r n → Done s o op r n
-  done op q (Ok now) r n is-q a st =
-      let cause = cause_row op ∙ a.0 in
-      record {
-        answer = st.0 ∙ accepted_answer (rows_means s) o op tt cause;
-        after = accepted_outcome (rows_means s) (rows_means n) o op cause (record {
-          chains = chains_now n now op st.1 a;
-          rooms = rooms n now op st.1 a;
-          image = unwritten s n o op;
+    by : (r : Result (Unit {0}) Cause) → RowChanged was op r now → Outcome (rows_means s) o op (meaning (chains_in (set s.rows k now)))
+    by (Ok done) a =
+        let becomes = chains (applied (chain_of (rows_means s) o) op) (a.1 ∙ ap (λ (xs : List Item). applied xs op) (sym chain)) in
+        let passes = ap (λ (xs : List Item). cause_in xs (8 - length xs) op) chain ∙ a.0 in
+        subst (λ (cs : List (List Item)). Outcome (rows_means s) o op (meaning cs)) (sym becomes) (accepted_outcome (rows_means s) (meaning (set (chains_in s.rows) o (applied (chain_of (rows_means s) o) op))) o op (cause ∙ a.0) (record {
+          chains = refl;
+          rooms = rooms (chains_in s.rows) o op there (each_short row_chain (λ r. r.short) s.rows o) passes;
+          image = unwritten (chains_in s.rows) o op;
           writes = refl;
-          sound = (rows_sound s, rows_sound n);
-        });
-      }
-  done op q (Err c) r n is-q a st =
-      let cause = cause_row op ∙ a in
-      record {
-        answer = st.0 ∙ ap (λ t. Err (bottom_fault c o t)) (sym is-q) ∙ refused_answer (rows_means s) o op tt c cause;
-        after = subst (λ (rows : List Row). Outcome (rows_means s) o op (means_in rows)) (sym st.1) (refused_outcome (rows_means s) o op c (rows_sound s) cause);
-      }
+        }))
+    by (Err c) a =
+        let same = chains (chain_of (rows_means s) o) (a.1 ∙ sym chain) ∙ set-get_or (chains_in s.rows) o [] in
+        subst (λ (cs : List (List Item)). Outcome (rows_means s) o op (meaning cs)) (sym same) (refused_outcome (rows_means s) o op c (cause ∙ a.0))
 
-  pub row_found : (q : ℕ) (x : Item) → RowFound row q (Ok x) → FindAnswer (rows_means s) o q (Ok x)
-  row_found q x a = (cause_row (Find q) ∙ a.0, ap (λ (xs : List Item). find_in xs q) of.1 ∙ a.1)
-
-  pub row_not_found : (q : ℕ) (c : Cause) (f : Fault) → RowFound row q (Err c) → f ≡ bottom_fault c o q → FindAnswer (rows_means s) o q (Err f)
-  row_not_found q c f a e = (c, cause_row (Find q) ∙ a, e)
-
-pub past_found : (s : Rows) (o p : ℕ) (f : Fault) (r : Result Item Fault) → RowOf s o p (Err f) → r ≡ Err f → FindAnswer (rows_means s) o p r
-past_found s o p f r e is = subst (FindAnswer (rows_means s) o p) (sym is) (NoObject, no_row s o (Find p) e.0, e.1)
-
--- a find leaves the store as it is
-pub unchanged : (s : Rows) (o p : ℕ) → Outcome (rows_means s) o (Find p) (rows_means s)
-unchanged s o p = find_outcome (rows_means s) o p (rows_sound s)
-
--- at
-pub past_at : (s : Rows) (o k : ℕ) (f : Fault) (r : Result (Option Item) Fault) → RowOf s o 0 (Err f) → r ≡ Err f → r ≡ answered (rows_means s) o At (nth_item (chain_of (rows_means s) o) k)
-past_at s o k f r e is = is ∙ ap Err e.1 ∙ refused_answer (rows_means s) o At _ NoObject (no_row s o At e.0)
-
-pub row_at : (s : Rows) (o k : ℕ) (row : Row) → RowOf s o 0 (Ok row) → Ok (nth_item (row_chain row) k) ≡ answered (rows_means s) o At (nth_item (chain_of (rows_means s) o) k)
-row_at s o k row of =
-    ap (λ (xs : List Item). Ok (nth_item xs k)) (sym of.1) ∙ accepted_answer (rows_means s) o At _ (cause_row s o 0 row of At)
+-- rows that are all alike
+pub all_alike : (rows : List Row) (xs : List Item) (n : ℕ) → length rows ≡ n → ((i : ℕ) (e : Row) → i < n → row_chain (get_or rows i e) ≡ xs) → chains_in rows ≡ replicate n xs
+all_alike [] xs zero long each = refl
+all_alike [] xs (suc n) long each = absurd (omega arith)
+all_alike (r ∷ rs) xs zero long each = absurd (omega arith)
+all_alike (r ∷ rs) xs (suc n) long each =
+    ap (λ (ys : List Item). ys ∷ chains_in rs) (each 0 r (omega arith)) ∙ ap (λ (ls : List (List Item)). xs ∷ ls) (all_alike rs xs n (omega arith) (λ i e h. each (suc i) e (omega arith)))

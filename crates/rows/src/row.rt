@@ -1,17 +1,16 @@
-ghost use Rattle.std.specs.Prelude.{◌≡◌, ℕ, ◌≤◌, length, take};
+ghost use Rattle.std.specs.Prelude.{◌≤◌, length};
 ghost use Rattle.history.specs.Chain.{Lawful};
 
+use arrayvec::ArrayVec;
 use history::item::Item;
 
-pub(crate) mod change;
+mod change;
 mod check;
 
-// The items of one object: the first `count` of eight.
-#[derive(Clone, Copy)]
+// The items of one object, at most 8.
+#[derive(Drop)]
 pub(crate) struct Row {
-    items: [Item; 8],
-    count: usize,
-    ghost short: { count ≤ 8 },
-    ghost wide: { length items ≡ 8 },
-    ghost lawful: { ∥ Lawful (take count items) ∥₁ },
+    items: ArrayVec<Item, 8>,
+    ghost short: { length items.items ≤ 8 },
+    ghost lawful: { ∥ Lawful items.items ∥₁ },
 }

@@ -1,17 +1,40 @@
 // Whether a row accepts an operation.
 ghost use Rattle.std.specs.Prelude.{◌≡◌};
+ghost use Rattle.history.specs.Chain.{some_item, has_start, starts_within, covers};
+ghost use Rattle.history.specs.Meaning.{version_at};
 ghost use Rattle.history.specs.Meaning.Op.{Find, Extend, Put, Seal, Drop};
 ghost use Rattle.rows.specs.Rowed.{row_chain, row_verdict};
 
 use crate::row::Row;
-use crate::scan::{Test, any};
-use history::item::{Cause, Item, LAST_MARK, TIME_LIMIT};
+use history::item::{Cause, LAST_MARK, TIME_LIMIT};
 
 impl Row {
-    pub(crate) fn used(&self) -> &[Item]
-        ensures { result.now ≡ row_chain self.now }
+    fn has_start(&self, start: u64) -> bool
+        ensures { result ≡ some_item (has_start start) (row_chain self.now) }
     {
-        &self.items[0..self.count]
+        self.items.iter().any(|item| item.start == start)
+    }
+
+    fn starts_within(&self, start: u64, time: u64) -> bool
+        ensures { result ≡ some_item (starts_within start time) (row_chain self.now) }
+    {
+        self.items
+            .iter()
+            .any(|item| start < item.start && item.start <= time)
+    }
+
+    fn covers(&self, time: u64) -> bool
+        ensures { result ≡ some_item (covers time) (row_chain self.now) }
+    {
+        self.items.iter().any(|item| item.covers(time))
+    }
+
+    fn version_at(&self, start: u64) -> bool
+        ensures { result ≡ version_at start (row_chain self.now) }
+    {
+        self.items
+            .iter()
+            .any(|item| item.start == start && item.is_version())
     }
 
     pub(crate) fn may_find(&self, time: u64) -> Result<(), Cause>
@@ -29,10 +52,10 @@ impl Row {
         if start >= TIME_LIMIT || time >= TIME_LIMIT {
             return Err(Cause::OutOfRange);
         }
-        if !any(self.used(), Test::StartsAt(start)) {
+        if !self.has_start(start) {
             return Err(Cause::NoItem);
         }
-        if any(self.used(), Test::StartsWithin(start, time)) {
+        if self.starts_within(start, time) {
             return Err(Cause::Overlap);
         }
         Ok(())
@@ -44,10 +67,10 @@ impl Row {
         if time >= TIME_LIMIT || mark > LAST_MARK {
             return Err(Cause::OutOfRange);
         }
-        if any(self.used(), Test::Covers(time)) {
+        if self.covers(time) {
             return Err(Cause::Overlap);
         }
-        if self.count == 8 {
+        if self.items.is_full() {
             return Err(Cause::NoRoom);
         }
         Ok(())
@@ -59,7 +82,7 @@ impl Row {
         if start >= TIME_LIMIT {
             return Err(Cause::OutOfRange);
         }
-        if !any(self.used(), Test::StartsAt(start)) {
+        if !self.has_start(start) {
             return Err(Cause::NoItem);
         }
         Ok(())
@@ -71,10 +94,10 @@ impl Row {
         if start >= TIME_LIMIT {
             return Err(Cause::OutOfRange);
         }
-        if !any(self.used(), Test::StartsAt(start)) {
+        if !self.has_start(start) {
             return Err(Cause::NoItem);
         }
-        if any(self.used(), Test::VersionAt(start)) {
+        if self.version_at(start) {
             return Err(Cause::IsVersion);
         }
         Ok(())

@@ -1,26 +1,25 @@
-ghost use Rattle.std.specs.Prelude.{◌≡◌, ◌<◌, [], ◌∷◌, replicate};
+ghost use Rattle.std.specs.Prelude.{◌≡◌, [], ◌∷◌, replicate};
 ghost use Rattle.history.specs.Chain.{fresh_item};
-ghost use Rattle.rows.specs.Tabled.{rows_means, bottom_fault, RowOf, Stored};
+ghost use Rattle.rows.specs.Tabled.{rows_means, RowIndex};
+ghost use Rattle.rows.specs.Rowed.{row_chain};
+ghost use Rattle.rows.specs.Keeping.{sound};
 
 use crate::row::Row;
 use crate::table::Rows;
-use history::item::{Cause, Fault, Item};
+use history::item::{BOTTOM, Cause, Fault, Item};
 use history::store::Store;
+use std::array;
 
 const OBJECTS: u32 = 32;
 
-// The level of a store that lies on no other.
-const BOTTOM: u8 = 0;
-
-fn fault(cause: Cause, object: u32, time: u64) -> Fault
-    ensures { result ≡ bottom_fault cause object time }
+// Where an object's row stands.
+fn row_index(object: u32, time: u64) -> Result<usize, Fault>
+    ensures { RowIndex object time result }
 {
-    Fault {
-        cause,
-        object,
-        time,
-        level: BOTTOM,
+    if object >= OBJECTS {
+        return Err(Cause::NoObject.at_bottom(object, time));
     }
+    Ok(object as usize)
 }
 
 impl Rows {
@@ -29,37 +28,13 @@ impl Rows {
         ensures { (rows_means result).chains ≡ replicate 32 (fresh_item 0 0 number ∷ []) }
     {
         Rows {
-            rows: [Row::starting(number); 32],
-        }
-    }
-
-    fn row(&self, object: u32, time: u64) -> Result<Row, Fault>
-        ensures { RowOf self.now object time result }
-    {
-        if object >= OBJECTS {
-            return Err(fault(Cause::NoObject, object, time));
-        }
-        Ok(self.rows[object as usize])
-    }
-
-    fn store(&mut self, object: u32, time: u64, changed: Result<Row, Cause>) -> Result<(), Fault>
-        requires { object < 32 }
-        ensures { Stored self.old object time changed result self.new }
-    {
-        match changed {
-            Ok(row) => {
-                self.rows[object as usize] = row;
-                Ok(())
-            }
-            Err(cause) => Err(fault(cause, object, time)),
+            rows: array::from_fn(|_| Row::starting(number)),
         }
     }
 }
 
 impl Store for Rows {
     ghost means = { rows_means };
-
-    ghost whole = { λ _. Unit {0} };
 
     ghost height = { λ _. 0 };
 
@@ -72,35 +47,40 @@ impl Store for Rows {
     }
 
     fn find(&mut self, object: u32, time: u64) -> Result<Item, Fault> {
-        let row = self.row(object, time)?;
-        match row.find(time) {
-            Ok(item) => Ok(item),
-            Err(cause) => Err(fault(cause, object, time)),
-        }
+        let row = row_index(object, time)?;
+        self.rows[row]
+            .find(time)
+            .map_err(|cause| cause.at_bottom(object, time))
     }
 
     fn at(&self, object: u32, place: u32) -> Result<Option<Item>, Fault> {
-        let row = self.row(object, 0)?;
-        Ok(row.at(place))
+        let row = row_index(object, 0)?;
+        Ok(self.rows[row].at(place))
     }
 
     fn extend(&mut self, object: u32, start: u64, time: u64) -> Result<(), Fault> {
-        let row = self.row(object, time)?;
-        self.store(object, time, row.extend(start, time))
+        let row = row_index(object, time)?;
+        let extended = self.rows[row].extend(start, time);
+        extended.map_err(|cause| cause.at_bottom(object, time))
     }
 
     fn put(&mut self, object: u32, time: u64, mark: u8, number: u64) -> Result<(), Fault> {
-        let row = self.row(object, time)?;
-        self.store(object, time, row.put(time, mark, number))
+        let row = row_index(object, time)?;
+        let placed = self.rows[row].put(time, mark, number);
+        placed.map_err(|cause| cause.at_bottom(object, time))
     }
 
     fn seal(&mut self, object: u32, start: u64) -> Result<(), Fault> {
-        let row = self.row(object, start)?;
-        self.store(object, start, row.seal(start))
+        let row = row_index(object, start)?;
+        let sealed = self.rows[row].seal(start);
+        sealed.map_err(|cause| cause.at_bottom(object, start))
     }
 
     fn drop(&mut self, object: u32, start: u64) -> Result<(), Fault> {
-        let row = self.row(object, start)?;
-        self.store(object, start, row.drop(start))
+        let row = row_index(object, start)?;
+        let dropped = self.rows[row].drop(start);
+        dropped.map_err(|cause| cause.at_bottom(object, start))
     }
+
+    ghost sound = { sound };
 }

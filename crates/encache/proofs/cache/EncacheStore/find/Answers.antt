@@ -1,40 +1,11 @@
-use Rattle.std.proofs.Common.{◌%◌, set, Ok, sym, refl, ap, ◌∙◌, subst, arith}
-use Rattle.history.proofs.Chains.{some_same}
-use Rattle.history.proofs.Outcomes.{find_outcome, find_leaves}
-use Rattle.encache.specs.Lines.{Held}
-use Rattle.encache.proofs.Kept.{hit_found, hit_stays, held_found}
+use Rattle.std.proofs.Common.{slice_index_or, None, sym, ◌∙◌, arith}
+use Rattle.encache.proofs.Kept.{hit_found, held_found}
 use Rattle.encache.proofs.cache.EncacheStore.find.Goals as goal
 
-pub returns-in-Some : goal.returns-in-Some
-returns-in-Some g c =
-    let here = c.in-Some.ensures in
-    record {
-      answer = λ w. hit_found _ c.args.object c.args.time _ _ _ w.1 (w.2 _) here;
-      after = λ w. (find_outcome _ _ _ w.1, w);
-      lines = hit_stays c.args.self.now.lines c.args.object c.args.time _ here;
-      spared = λ x e. (ap Ok (some_same _ x (here ∙ e)), refl);
-    }
+pub returns-in-Some-clause-answer : goal.returns-in-Some-clause-answer
+returns-in-Some-clause-answer g c =
+    rw (← c.self.view_is) (hit_found (g.S.Store.means c.self.inside.below) c.args.object c.args.time c.line_number-k.result (slice_index_or c.self.inside.lines c.line_number-k.result None) c.in-Some.item (g.met.S.Store.sound c.self.inside.below) (c.self.invariant c.line_number-k.result) (sym c.in-Some.is ∙ c.hit.ensures))
 
-pub returns-in-Ok : goal.returns-in-Ok
-returns-in-Ok g c =
-    let done = c.in-Ok.ensures in
-    let lines = c.args.self.now.lines in
-    let now-is = ap (set lines (c.args.object % 8)) c.filled.ensures in
-    record {
-      answer = λ w. done.answer w.0;
-      after = λ w. let out = done.after w.0 in
-          (out.0, (out.1, out.0.sound.1, subst (Held _) (sym now-is) (held_found _ _ lines c.args.object c.args.time _ (omega arith) w.2 out.0 (done.answer w.0).1)));
-      lines = now-is;
-      spared = λ x e. absurd (c.in_default.not-Some x (c.hit.ensures ∙ e));
-    }
-
-pub returns-in-Err : goal.returns-in-Err
-returns-in-Err g c =
-    let done = c.in-Err.ensures in
-    record {
-      answer = λ w. done.answer w.0;
-      after = λ w. let out = done.after w.0 in
-          (out.0, (out.1, out.0.sound.1, subst (λ cs. Held cs c.args.self.now.lines) (sym (find_leaves _ _ _ _ out.0)) w.2));
-      lines = refl;
-      spared = λ x e. absurd (c.in_default.not-Some x (c.hit.ensures ∙ e));
-    }
+pub invariant_of-self-2 : goal.invariant_of-self-2
+invariant_of-self-2 g c =
+    rw (c.line_number-k.ensures) (held_found _ _ c.self.inside.lines c.args.object c.args.time c.in_ok-item.item (omega arith) c.self.invariant c.find.ensures.after c.in_ok-item.ensures.answer.1)

@@ -1,27 +1,11 @@
-use Rattle.std.proofs.Common.{◌%◌, set, sym, refl, ap, subst, arith}
+use Rattle.std.proofs.Common.{rules, slice_index_or, None, arith}
+use Rattle.history.specs.Chain.{seals}
 use Rattle.history.specs.Meaning.Op.{Seal}
-use Rattle.encache.specs.Lines.{Held}
-use Rattle.encache.proofs.Kept.{held_accepted, held_refused}
+use Rattle.encache.proofs.Kept.{held_accepted, changed_by}
 use Rattle.encache.proofs.cache.EncacheStore.seal.Goals as goal
 
-pub returns-in-Ok : goal.returns-in-Ok
-returns-in-Ok g c =
-    let done = c.in-Ok.ensures in
-    let lines = c.args.self.now.lines in
-    let now-is = ap (set lines (c.args.object % 8)) c.sealed_line.ensures in
-    record {
-      answer = λ w. done.answer w.0;
-      after = λ w. let out = done.after w.0 in
-          (out.0, (out.1, out.0.sound.1, subst (Held _) (sym now-is) (held_accepted _ _ lines c.args.object w.2 (Seal c.args.start) (omega arith) out.0 (done.answer w.0))));
-      lines = now-is;
-    }
-
-pub returns-in-Err : goal.returns-in-Err
-returns-in-Err g c =
-    let done = c.in-Err.ensures in
-    record {
-      answer = λ w. done.answer w.0;
-      after = λ w. let out = done.after w.0 in
-          (out.0, (out.1, out.0.sound.1, held_refused _ _ c.args.self.now.lines c.args.object w.2 (Seal c.args.start) _ out.0 (done.answer w.0)));
-      lines = refl;
-    }
+pub invariant_of-self-2 : goal.invariant_of-self-2
+invariant_of-self-2 g c =
+    let lines = c.self.inside.lines in
+    let line = changed_by (seals c.args.start) c.args.object (slice_index_or lines c.line_number-k.result None) c.changed.result c.changed.ensures (λ x y h. search rules) in
+    rw (line, c.line_number-k.ensures) (held_accepted _ _ lines c.args.object c.self.invariant (Seal c.args.start) (omega arith) c.seal.ensures.after c.in_ok-seal.ensures.answer)

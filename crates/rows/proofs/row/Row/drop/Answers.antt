@@ -1,11 +1,16 @@
-use Rattle.std.proofs.Common.{arith}
+use Rattle.std.proofs.Common.{rules, tests}
 use Rattle.history.specs.Meaning.Op.{Drop}
-use Rattle.rows.specs.Rowed.{row_cause}
-use Rattle.rows.proofs.Rowing.{passed, stays_lawful}
+use Rattle.rows.specs.Rowed.{row_chain}
+use Rattle.rows.proofs.Items.{drop_by_retain}
+use Rattle.rows.proofs.Rowing.{passed, kept}
 use Rattle.rows.proofs.row.Row.drop.Goals as goal
 
-pub invariant_of-result : goal.invariant_of-result
-invariant_of-result c =
-    let s = c.args.self.now in
-    let op = Drop c.args.start in
-    record { short = omega (arith, c.without-count.ensures.1, s.short); wide = omega arith; lawful = stays_lawful s op _ (passed (row_cause s op) c.in_ok-may_drop.ensures) c.without-count.ensures.0 }
+pub invariant_of-self : goal.invariant_of-self
+invariant_of-self c =
+    let now = drop_by_retain _ c.args.start _ (row_chain c.args.self.now) c.retain.new.self.items (λ x b q y k. search (rules, tests)) c.retain.ensures.filtered in
+    let k = kept c.args.self.now (Drop c.args.start) _ c.in_ok-may_drop.ensures now in record { short = k.short; lawful = k.lawful }
+
+pub returns : goal.returns
+returns c =
+    let now = drop_by_retain _ c.args.start _ (row_chain c.args.self.now) c.retain.new.self.items (λ x b q y k. search (rules, tests)) c.retain.ensures.filtered in
+    (passed _ c.in_ok-may_drop.ensures, now)

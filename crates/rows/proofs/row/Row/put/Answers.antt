@@ -1,17 +1,18 @@
-use Rattle.std.proofs.Common.{arith}
+use Rattle.std.proofs.Common.{rules, tests, ap, ◌∙◌}
+use Rattle.std.specs.List.{insert}
+use Rattle.history.specs.Chain.{fresh_item}
 use Rattle.history.specs.Meaning.Op.{Put}
-use Rattle.rows.specs.Rowed.{row_cause}
-use Rattle.rows.proofs.Rowing.{passed, room_left, stays_lawful}
+use Rattle.rows.specs.Rowed.{row_chain}
+use Rattle.rows.proofs.Items.{put_at_position}
+use Rattle.rows.proofs.Rowing.{passed, kept}
 use Rattle.rows.proofs.row.Row.put.Goals as goal
 
-pub inserted-requires : goal.inserted-requires
-inserted-requires c =
-    room_left c.args.self.now c.args.time c.args.mark c.args.number (passed _ c.in_ok-may_put.ensures)
+pub invariant_of-self : goal.invariant_of-self
+invariant_of-self c =
+    let now = put_at_position (fresh_item c.args.time c.args.mark c.args.number) (row_chain c.args.self.now) (c.iter.ensures.rest ∙ c.deref.ensures.0) _ _ c.position-later.result c.position-later.ensures.ran (λ y b q k. search (rules, tests)) _ _ c.unwrap_or.ensures c.len.ensures.value in
+    let k = kept c.args.self.now (Put c.args.time c.args.mark c.args.number) _ c.in_ok-may_put.ensures (c.insert.ensures.items ∙ ap (insert (row_chain c.args.self.now) c.unwrap_or.result) c.fresh-new.ensures ∙ now) in record { short = k.short; lawful = k.lawful }
 
-pub invariant_of-result : goal.invariant_of-result
-invariant_of-result c =
-    let s = c.args.self.now in
-    let op = Put c.args.time c.args.mark c.args.number in
-    let accepted = passed (row_cause s op) c.in_ok-may_put.ensures in
-    let short = room_left s c.args.time c.args.mark c.args.number accepted in
-    record { short = omega arith; wide = omega arith; lawful = stays_lawful s op _ accepted c.inserted.ensures }
+pub returns : goal.returns
+returns c =
+    let now = put_at_position (fresh_item c.args.time c.args.mark c.args.number) (row_chain c.args.self.now) (c.iter.ensures.rest ∙ c.deref.ensures.0) _ _ c.position-later.result c.position-later.ensures.ran (λ y b q k. search (rules, tests)) _ _ c.unwrap_or.ensures c.len.ensures.value in
+    (passed _ c.in_ok-may_put.ensures, c.insert.ensures.items ∙ ap (insert (row_chain c.args.self.now) c.unwrap_or.result) c.fresh-new.ensures ∙ now)

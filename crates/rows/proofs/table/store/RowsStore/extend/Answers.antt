@@ -1,16 +1,7 @@
-use Rattle.std.proofs.Common.{Err, refl, ap, ◌∙◌}
-use Rattle.std.proofs.lemmas.Result.{err_from_is_err_and}
 use Rattle.history.specs.Meaning.Op.{Extend}
-use Rattle.rows.proofs.Tabling.{past_objects, done}
+use Rattle.rows.proofs.Tabling.{changed}
 use Rattle.rows.proofs.table.store.RowsStore.extend.Goals as goal
 
-pub returns-in_err-row : goal.returns-in_err-row
-returns-in_err-row c =
-    let p = err_from_is_err_and c.from_residual.result c.from_residual.ensures.1 in
-    let r = past_objects c.args.self.now c.args.object (Extend c.args.start c.args.time) _ _ c.in_err-row.ensures (p.1 ∙ ap Err p.2) in
-    record { answer = λ _. r.answer; after = λ _. (r.after, tt) }
-
-pub returns : goal.returns
-returns c =
-    let r = done c.args.self.now c.args.object c.args.time c.in_ok-row.row c.in_ok-row.ensures (Extend c.args.start c.args.time) c.args.time _ _ _ refl c.extend.ensures c.store.ensures in
-    record { answer = λ _. r.answer; after = λ _. (r.after, tt) }
+pub returns-clause-after : goal.returns-clause-after
+returns-clause-after c =
+    changed c.args.self.now c.args.object c.in_ok-row.row (Extend c.args.start c.args.time) c.index-self-row.result c.extend-extended.new.self c.extend-extended.result c.in_ok-row.ensures.0 c.in_ok-row.ensures.1 c.extend-extended.ensures

@@ -1,16 +1,7 @@
-use Rattle.std.proofs.Common.{Err, refl, ap, ◌∙◌}
-use Rattle.std.proofs.lemmas.Result.{err_from_is_err_and}
 use Rattle.history.specs.Meaning.Op.{Put}
-use Rattle.rows.proofs.Tabling.{past_objects, done}
+use Rattle.rows.proofs.Tabling.{changed}
 use Rattle.rows.proofs.table.store.RowsStore.put.Goals as goal
 
-pub returns-in_err-row : goal.returns-in_err-row
-returns-in_err-row c =
-    let p = err_from_is_err_and c.from_residual.result c.from_residual.ensures.1 in
-    let r = past_objects c.args.self.now c.args.object (Put c.args.time c.args.mark c.args.number) _ _ c.in_err-row.ensures (p.1 ∙ ap Err p.2) in
-    record { answer = λ _. r.answer; after = λ _. (r.after, tt) }
-
-pub returns : goal.returns
-returns c =
-    let r = done c.args.self.now c.args.object c.args.time c.in_ok-row.row c.in_ok-row.ensures (Put c.args.time c.args.mark c.args.number) c.args.time _ _ _ refl c.put.ensures c.store.ensures in
-    record { answer = λ _. r.answer; after = λ _. (r.after, tt) }
+pub returns-clause-after : goal.returns-clause-after
+returns-clause-after c =
+    changed c.args.self.now c.args.object c.in_ok-row.row (Put c.args.time c.args.mark c.args.number) c.index-self-row.result c.put-placed.new.self c.put-placed.result c.in_ok-row.ensures.0 c.in_ok-row.ensures.1 c.put-placed.ensures
