@@ -1,6 +1,6 @@
 -- What turns an operation down, told from the items of the records that were found.
 use Rattle.std.proofs.Common.{◌≡◌, ℕ, ◌+◌, ◌^◌, ◌<◌, ◌≤◌, false, not, ◌&&◌, ◌||◌, eqb, ltb, leb, List, map, length, Some, None, sym, ap, ◌∙◌, ⊎_elim, arith}
-use Rattle.std.proofs.lemmas.Bool.{cases_eq, eq-eqb, ne_eqb, eqb-false, le-leb, lt-leb, leb-false, or_from, not-false, cond-true, cond-false}
+use Rattle.std.proofs.lemmas.Bool.{cases_eq, eq-eqb, ne_eqb, eqb-false, le-leb, lt-leb, or_from, not-false, cond-true, cond-false}
 use Rattle.history.specs.declared.item.Item.{Item}
 use Rattle.history.specs.declared.item.Cause.TheVariants.{OutOfRange, NoItem, Overlap, IsVersion, NoRoom}
 use Rattle.history.specs.Chain.{some_item, covers, starts_within, is_version, Ascends}
@@ -13,7 +13,7 @@ use Rattle.layout.specs.Layout.{free_in, item_at, path, items}
 use Rattle.chained.specs.Edits.{record_by}
 use Rattle.chained.specs.Means.{meaning, served}
 use Rattle.layout.proofs.Runs.{step_path, end_path}
-use Rattle.chained.proofs.Meanings.{Serves, serves, cause_at}
+use Rattle.chained.specs.Served.{Serves, serves, cause_at}
 use Rattle.layout.proofs.Parts.{parts}
 use Rattle.chained.proofs.Seeks.{start_tells, within_tells, covers_tells, version_tells}
 use Rattle.chained.proofs.Stands.{accepted_in}
@@ -103,9 +103,3 @@ drop_late bs o s c =
     let need = drop_needs (items bs (o + 1)) (length (path bs (free_in bs))) s q.1 in
     let stays = first_stays s (item_at bs (o + 1)) _ (at.first bs o w) (ap (λ ns. version_at s (map (item_at bs) ns)) (sym (at.chain bs o w)) ∙ need.token) in
     omega (arith, (at.first bs o w).0, eqb-false (item_at bs (o + 1)).start s stays)
-
--- and its pseudo-time and the one before are in range
-pub drop_range : (bs : List ℕ) (o s p : ℕ) → cause_of (meaning bs) o (Drop s) ≡ None → p ≤ s → cause_of (meaning bs) o (Find p) ≡ None
-drop_range bs o s p c l =
-    let q = accepted_in bs o (Drop s) c in
-    find_clear bs o p q.0 (let h = leb-false (2 ^ 63) s (either_none (too_large s) _ _ q.1).0 in omega arith)

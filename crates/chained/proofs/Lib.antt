@@ -1,4 +1,3 @@
-mod Meanings
 mod Edited
 mod Seeks
 mod Splits
@@ -7,4 +6,4 @@ mod Openings
 mod Stands
 mod Walks
 mod Causes
-mod Soundness
+mod Operations

@@ -13,7 +13,7 @@ use Rattle.chained.specs.Laws.{Spells, room_after}
 use Rattle.layout.proofs.Runs.{Run, trail_within}
 use Rattle.layout.proofs.Totals.{Within, times_cons}
 use Rattle.layout.proofs.Histories.{history_parts, history_from}
-use Rattle.chained.proofs.Meanings.{Serves, chains_are, room_is}
+use Rattle.chained.specs.Served.{Serves, chains_are, room_is}
 use Rattle.layout.proofs.Represents.{Represents, represented, path_at, same}
 use Rattle.chained.proofs.Edited.{Edited}
 

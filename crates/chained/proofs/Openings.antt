@@ -8,7 +8,7 @@ use Rattle.layout.specs.Layout.{records_in, free_in, item_at, next_at, path, ite
 use Rattle.chained.specs.Edits.{last_by, record_by}
 use Rattle.layout.proofs.Runs.{Run, run_ends, step_path, end_path}
 use Rattle.layout.proofs.Histories.{history_parts}
-use Rattle.chained.proofs.Meanings.{Serves}
+use Rattle.chained.specs.Served.{Serves}
 use Rattle.layout.proofs.Parts.{parts}
 use Rattle.chained.proofs.Seeks.{found_last}
 use Rattle.chained.proofs.Splits.{Slot, slot, Cut, cut}
@@ -68,11 +68,11 @@ module _ (bs : List ℕ) (o : ℕ) (v : Serves bs o) where
   placed p =
       let s = slotted (fresh_item p 0 0) in
       let t = through bs (records_in bs) (o + 1) s.pre (record_by bs o p) s.post (subst (Run bs (records_in bs) (o + 1)) s.chain run) in
-      (t.pos, t.most, omega (arith, t.most, v.header.size))
+      (t.pos, t.most, omega (arith, t.most, v.header.size.long))
 
   -- the first free record, where there is one
   pub spare : (length (path bs (free_in bs)) ≡ 0 → ⊥) → Free bs
   spare n =
       let pos : 0 < free_in bs = (let nz : free_in bs ≡ 0 → ⊥ = λ e. n (ap length (end_path bs (free_in bs) e)) in omega arith) in
       let s = step_path bs (free_in bs) (parts bs v.lawful).threads.spare pos in
-      record { pos = pos; most = s.2; fits = omega (arith, s.2, v.header.size); chain = s.0; run = run_ends bs (records_in bs) (records_in bs) (next_at bs (free_in bs)) s.1 }
+      record { pos = pos; most = s.2; fits = omega (arith, s.2, v.header.size.long); chain = s.0; run = run_ends bs (records_in bs) (records_in bs) (next_at bs (free_in bs)) s.1 }

@@ -17,7 +17,7 @@ use Rattle.chained.specs.Means.{meaning, served}
 use Rattle.chained.specs.Laws.{room_after, Spells, WritesStand}
 use Rattle.layout.proofs.Runs.{Run, run_ends, trail_within}
 use Rattle.layout.proofs.Totals.{Within, times_cons}
-use Rattle.chained.proofs.Meanings.{Serves, serves, objects_are, cause_at}
+use Rattle.chained.specs.Served.{Serves, serves, objects_are, cause_at}
 use Rattle.layout.proofs.Parts.{parts}
 use Rattle.layout.proofs.Represents.{each_parts}
 use Rattle.chained.proofs.Edited.{Linked, Storable, changed_edited, relinked}
@@ -152,8 +152,8 @@ module _ (bs : List ℕ) (o : ℕ) (v : Serves bs o) where
 
         k : Linked bs a x new next after first cs
         k =
-            relinked bs a x new next after first t.pos ix.0 apart (omega (arith, t.most, v.header.size)) (omega (arith, ix.1, v.header.size)) fits
-            (omega (arith, bound.0, v.header.most)) (omega (arith, bound.1, v.header.most)) (omega (arith, bound.2, v.header.most))
+            relinked bs a x new next after first t.pos ix.0 apart (omega (arith, t.most, v.header.size.long)) (omega (arith, ix.1, v.header.size.long)) fits
+            (omega (arith, bound.0, v.header.size.most)) (omega (arith, bound.1, v.header.size.most)) (omega (arith, bound.2, v.header.size.most))
 
         links : (ms : List ℕ) → Within (records_in bs) ms → times x ms ≡ 0 → times a ms ≡ 0 → AllByRecursion (λ j. next_at cs j ≡ next_at bs j) ms
         links ms w p q = all_but x a (records_in bs) (λ j. next_at cs j ≡ next_at bs j) ms w p q k.edited.nexts

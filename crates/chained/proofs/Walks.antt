@@ -1,24 +1,35 @@
--- What a walk along a chain has found so far.
-use Rattle.std.proofs.Common.{◌≡◌, ℕ, zero, suc, ◌-◌, true, false, List, ◌∷◌, Some, Option, sym, refl, ap, ◌∙◌, sub-one}
+-- What searches along a chain find.
+use Rattle.std.proofs.Common.{◌≡◌, ℕ, zero, suc, ◌+◌, cond, List, [], ◌∷◌, map, take, Some, None, Option, unwrap_or, sym, refl, ap, ◌∙◌, ⊎_elim, arith}
+use Rattle.std.specs.List.{slice_get, prefix_len, last_or}
+use Rattle.std.specs.Option.{option_map}
+use Rattle.std.proofs.lemmas.Bool.{cases_Bool}
 use Rattle.history.specs.declared.item.Item.{Item}
 use Rattle.history.specs.Chain.{nth_item, starts_by}
 use Rattle.layout.specs.Layout.{item_at}
 use Rattle.chained.specs.Edits.{last_by}
 
-pub nth_here : (x y : Item) (xs ys : List Item) (k : ℕ) (r : Option Item) → nth_item xs k ≡ r → xs ≡ x ∷ ys → y ≡ x → k ≡ 0 → Some y ≡ r
-nth_here x y xs ys k r h e f z =
-    ap Some f ∙ sym (ap (nth_item (x ∷ ys)) z) ∙ sym (ap (λ zs. nth_item zs k) e) ∙ h
+nth_at : (bs ns : List ℕ) (k : ℕ) → nth_item (map (item_at bs) ns) k ≡ option_map (item_at bs) (slice_get ns k)
+nth_at bs [] k = refl
+nth_at bs (n ∷ ns) zero = refl
+nth_at bs (n ∷ ns) (suc k) = nth_at bs ns k
 
-pub nth_next : (x : Item) (xs ys : List Item) (k : ℕ) (r : Option Item) → nth_item xs k ≡ r → xs ≡ x ∷ ys → (k ≡ 0 → ⊥) → nth_item ys (k - 1) ≡ r
-nth_next x xs ys zero r h e n = absurd (n refl)
-nth_next x xs ys (suc k) r h e n = ap (nth_item ys) (sub-one (suc k)) ∙ sym (ap (λ zs. nth_item zs (suc k)) e) ∙ h
+module _ (bs ns : List ℕ) (n : ℕ) (r : Option ℕ) (e : option_map (λ k. k) r ≡ slice_get ns n) where
+  pub nth_some : (k : ℕ) (x : Item) → r ≡ Some k → x ≡ item_at bs k → Some x ≡ nth_item (map (item_at bs) ns) n
+  nth_some k x f g = ap Some g ∙ ap (λ o. option_map (item_at bs) (option_map (λ k. k) o)) (sym f) ∙ ap (option_map (item_at bs)) e ∙ sym (nth_at bs ns n)
 
-pub last_here : (bs : List ℕ) (p k a r : ℕ) (ns ks : List ℕ) → last_by bs p a ns ≡ r → ns ≡ k ∷ ks → starts_by p (item_at bs k) ≡ false → a ≡ r
-last_here bs p k a r ns ks h e t =
-    let g : last_by bs p a (k ∷ ks) ≡ a = rw t refl in
-    sym g ∙ sym (ap (last_by bs p a) e) ∙ h
+  pub nth_none : r ≡ None → None ≡ nth_item (map (item_at bs) ns) n
+  nth_none f = ap (λ o. option_map (item_at bs) (option_map (λ k. k) o)) (sym f) ∙ ap (option_map (item_at bs)) e ∙ sym (nth_at bs ns n)
 
-pub last_next : (bs : List ℕ) (p k a r : ℕ) (ns ks : List ℕ) → last_by bs p a ns ≡ r → ns ≡ k ∷ ks → starts_by p (item_at bs k) ≡ true → last_by bs p k ks ≡ r
-last_next bs p k a r ns ks h e t =
-    let g : last_by bs p a (k ∷ ks) ≡ last_by bs p k ks = rw t refl in
-    sym g ∙ sym (ap (last_by bs p a) e) ∙ h
+pub last_is : (bs : List ℕ) (p a : ℕ) (ns : List ℕ) (o : Option ℕ) → unwrap_or o 0 ≡ a → last_by bs p a ns ≡ unwrap_or (last_or o (take (prefix_len (λ k. starts_by p (item_at bs k)) ns) ns)) 0
+last_is bs p a [] o e = sym e
+last_is bs p a (k ∷ ks) o e =
+    ⊎_elim
+    (λ t.
+    let n : ℕ = prefix_len (λ k. starts_by p (item_at bs k)) ks in
+    let s : 1 + n ≡ suc n = omega arith in
+    let z : ◌≡◌ {A = List ℕ} (take (cond (starts_by p (item_at bs k)) (1 + n) 0) (k ∷ ks)) (k ∷ take n ks) = ap (λ b. take (cond b (1 + n) 0) (k ∷ ks)) t ∙ ap (λ i. take i (k ∷ ks)) s in
+    ap (λ b. cond b (last_by bs p k ks) a) t ∙ last_is bs p k ks (Some k) refl ∙ ap (λ ns. unwrap_or (last_or o ns) 0) (sym z))
+    (λ t.
+    let z : ◌≡◌ {A = List ℕ} (take (cond (starts_by p (item_at bs k)) (1 + prefix_len (λ k. starts_by p (item_at bs k)) ks) 0) (k ∷ ks)) [] = ap (λ b. take (cond b (1 + prefix_len (λ k. starts_by p (item_at bs k)) ks) 0) (k ∷ ks)) t in
+    ap (λ b. cond b (last_by bs p k ks) a) t ∙ sym e ∙ ap (λ ns. unwrap_or (last_or o ns) 0) (sym z))
+    (cases_Bool (starts_by p (item_at bs k)))

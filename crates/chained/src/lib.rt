@@ -2,7 +2,6 @@
 #![tactic(auto)]
 
 mod chain;
-mod edit;
 pub mod law;
 pub mod open;
 mod plans;

@@ -1,27 +1,36 @@
 // A store over bytes.
 ghost use Rattle.std.specs.Prelude.{◌≡◌, true, false, MatchResult};
-ghost use Rattle.history.specs.Meaning.{Sound};
 ghost use Rattle.layout.specs.Layout.{lawful};
 ghost use Rattle.chained.specs.Means.{meaning, Reopens};
 
 use crate::table::{Chained, Table};
-use layout::field::get_u16;
+use layout::header::objects_in;
 use layout::lawful::is_lawful;
+use std::error::Error;
+use std::fmt;
 
 // The bytes are not lawful.
 #[derive(Clone, Copy, PartialEq, Eq, Debug)]
 pub struct Unlawful;
 
+impl fmt::Display for Unlawful {
+    fn fmt<W: fmt::Write>(&self, f: &mut fmt::Formatter<W>) -> fmt::Result {
+        f.write_str("the bytes are not a lawful table")
+    }
+}
+
+impl Error for Unlawful {}
+
 impl<'a> Chained<'a> {
     // A store over the bytes, which has no objects where they are not lawful.
     pub fn new(bytes: &'a mut [u8]) -> Chained<'a>
-        ensures bytes { result.table.bytes.now ≡ bytes.old }
-        ensures sound { Sound (meaning result.table.bytes.now) }
+        ensures { result.table.bytes.now ≡ bytes.old }
     {
-        let mut objects = 0;
-        if is_lawful(bytes) {
-            objects = get_u16(bytes, 4);
-        }
+        let objects = if is_lawful(bytes) {
+            objects_in(bytes)
+        } else {
+            0
+        };
         Chained {
             table: Table { bytes },
             objects,

@@ -1,18 +1,22 @@
 ghost use Rattle.chained.specs.Means.{meaning};
+ghost use Rattle.chained.specs.Served.{sound};
+ghost use Rattle.chained.specs.Plans.{Told};
 
 use crate::chain::nth_from;
 use crate::table::Chained;
-use history::item::{Cause, Fault, Item, VERSION};
+use history::item::{BOTTOM, Cause, Fault, Item};
 use history::store::Store;
 
-// The level of a store.
-const BOTTOM: u8 = 0;
+// A plan with the fault in place of its cause.
+fn told<T>(plan: Result<T, Cause>, object: u32, time: u64) -> Result<T, Fault>
+    ensures { Told plan object time result }
+{
+    plan.map_err(|cause| cause.at_bottom(object, time))
+}
 
-// The store keeps nothing beside its bytes that its fields do not say: it is whole always, and the lowest of its layers.
+// The lowest of its layers. Whatever the bytes are, what they mean is sound.
 impl<'a> Store for Chained<'a> {
     ghost means = { λ s. meaning s.table.bytes.now };
-
-    ghost whole = { λ _. Unit {0} };
 
     ghost height = { λ _. 0 };
 
@@ -25,95 +29,38 @@ impl<'a> Store for Chained<'a> {
     }
 
     fn find(&mut self, object: u32, time: u64) -> Result<Item, Fault> {
-        match self.place(object, time) {
-            Err(cause) => Err(Fault {
-                cause,
-                object,
-                time,
-                level: BOTTOM,
-            }),
-            Ok(place) => Ok(place.item),
-        }
+        let place = told(self.place(object, time), object, time)?;
+        Ok(place.item)
     }
 
     fn at(&self, object: u32, place: u32) -> Result<Option<Item>, Fault> {
-        if object >= self.objects as u32 {
-            return Err(Fault {
-                cause: Cause::NoObject,
-                object,
-                time: 0,
-                level: BOTTOM,
-            });
-        }
-        Ok(nth_from(self.table.bytes, object as u16 + 1, place))
+        let first = told(self.first(object), object, 0)?;
+        Ok(nth_from(self.table.bytes, first, place))
     }
 
     fn extend(&mut self, object: u32, start: u64, time: u64) -> Result<(), Fault> {
-        match self.stretched(object, start, time) {
-            Err(cause) => Err(Fault {
-                cause,
-                object,
-                time,
-                level: BOTTOM,
-            }),
-            Ok((k, end)) => {
-                self.table.set_end(k, end);
-                Ok(())
-            }
-        }
+        let stretch = told(self.stretched(object, start, time), object, time)?;
+        self.table.stretch(stretch);
+        Ok(())
     }
 
     fn put(&mut self, object: u32, time: u64, mark: u8, number: u64) -> Result<(), Fault> {
-        match self.placed(object, time, mark, number) {
-            Err(cause) => Err(Fault {
-                cause,
-                object,
-                time,
-                level: BOTTOM,
-            }),
-            Ok((last, k)) => {
-                self.table.insert(
-                    last,
-                    k,
-                    Item {
-                        start: time,
-                        end: time,
-                        mark,
-                        number,
-                    },
-                );
-                Ok(())
-            }
-        }
+        let link = told(self.placed(object, time, mark, number), object, time)?;
+        self.table.insert(link, Item::fresh(time, mark, number));
+        Ok(())
     }
 
     fn seal(&mut self, object: u32, start: u64) -> Result<(), Fault> {
-        match self.sealed(object, start) {
-            Err(cause) => Err(Fault {
-                cause,
-                object,
-                time: start,
-                level: BOTTOM,
-            }),
-            Ok(place) => {
-                self.table.set_mark(place.at, VERSION);
-                Ok(())
-            }
-        }
+        let place = told(self.sealed(object, start), object, start)?;
+        self.table.seal(place.at);
+        Ok(())
     }
 
     fn drop(&mut self, object: u32, start: u64) -> Result<(), Fault> {
-        match self.dropped(object, start) {
-            Err(cause) => Err(Fault {
-                cause,
-                object,
-                time: start,
-                level: BOTTOM,
-            }),
-            Ok((last, k)) => {
-                self.table.remove(last, k);
-                Ok(())
-            }
-        }
+        let link = told(self.dropped(object, start), object, start)?;
+        self.table.remove(link);
+        Ok(())
     }
+
+    ghost sound = { λ s. sound s.table.bytes.now };
 }

@@ -17,8 +17,8 @@ fn damages(was: u8) -> [u8; 7] {
 fn compare(rt: &impl Print, image: [u8; SIZE]) -> anyhow::Result<()> {
     let mut opened: u32 = 0;
     let mut refused: u32 = 0;
-    for at in 0..SIZE {
-        for value in damages(image[at]) {
+    for (at, was) in image.iter().enumerate() {
+        for value in damages(*was) {
             let mut bytes = image;
             bytes[at] = value;
             let lawful = is_lawful_table(&bytes);

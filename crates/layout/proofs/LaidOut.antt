@@ -5,33 +5,25 @@ use Rattle.std.proofs.lemmas.List.{ext_get_or, length-map, get_or-map, append_as
 use Rattle.std.proofs.lemmas.List.Sums.{sum_by-cons}
 use Rattle.std.proofs.lemmas.List.FromFn.{length-map-range_with_len, get_or-map-range_with_len}
 use Rattle.std.proofs.lemmas.Bool.Decides.{nat_tests}
-use Rattle.std.proofs.lemmas.Bool.{cases_lt, eqb-true, leb-true, eq-eqb, le-leb, lt-ltb, le-ltb, and_parts, and_from, cond-true, cond-false}
+use Rattle.std.proofs.lemmas.Bool.{cases_lt, eqb-true, eq-eqb, le-leb, lt-ltb, le-ltb, and_parts, and_from, cond-true, cond-false}
 use Rattle.history.specs.Chain.{fresh_item}
 use Rattle.layout.specs.Field.{num}
-use Rattle.layout.specs.Layout.{objects_in, records_in, free_in, item_at, pad_at, times, vacant, blank, history, header}
+use Rattle.layout.specs.Layout.{objects_in, records_in, free_in, item_at, pad_at, times, vacant, blank, history, sized, header}
 use Rattle.layout.specs.Laid.{fits, after, head, row, zeros, laid_out, with_rows, Laid}
 use Rattle.layout.proofs.Fields.{num_digits}
+use Rattle.layout.proofs.Parts.{Sized, sized_parts}
 use Rattle.layout.proofs.Runs.{Run}
 use Rattle.layout.proofs.Totals.{times_cons}
 use Rattle.layout.proofs.Rows.{rows_laid, length_rows, num_row, Holds, holds_row, holds_version, holds_free}
 use Rattle.layout.proofs.Represents.{Represents, Same, same}
 
+-- n objects and m records fit `size` bytes, with `count` numbers
 pub record Fit (n m size count : ℕ) : Type 0 where
-  pub some : 1 ≤ n
-  pub few : n ≤ 128
-  pub within : n ≤ m
-  pub most : m ≤ 2047
-  pub long : size ≡ 32 * (m + 1)
+  pub sized : Sized n m size
   pub given : count ≡ n
 
 pub fit : (n m size count : ℕ) → fits n m size count ≡ true → Fit n m size count
-fit n m size count h =
-    let e = and_parts _ _ h in
-    let d = and_parts _ _ e.0 in
-    let c = and_parts _ _ d.0 in
-    let b = and_parts _ _ c.0 in
-    let a = and_parts _ _ b.0 in
-    record { some = leb-true _ _ a.0; few = leb-true _ _ a.1; within = leb-true _ _ b.1; most = leb-true _ _ c.1; long = eqb-true _ _ d.1; given = eqb-true _ _ e.1 }
+fit n m size count h = let a = and_parts _ _ h in record { sized = sized_parts _ _ _ a.0; given = eqb-true _ _ a.1 }
 
 -- how often a number is among those from a on
 times_counting : (a d y : ℕ) → times y (range_with_len a d) ≡ cond (leb a y && ltb y (a + d)) 1 0
@@ -67,7 +59,7 @@ written n m long numbers b0 b1 bs f p q r =
     let front : List ℕ = head n m ++ flat_map (row 24 8) numbers in
     let links : List ℕ = map (after m) (range_with_len (n + 1) (m - n)) in
     let a : b1 ≡ front ++ zeros (32 * (m - n)) =
-    q ∙ ap (λ xs. with_rows 24 8 xs 1 numbers) p ∙ rows_laid 24 8 (head n m) 1 numbers (long - 32) (32 * (m - n)) (omega arith) refl (omega (arith, f.long, f.given, f.within))
+    q ∙ ap (λ xs. with_rows 24 8 xs 1 numbers) p ∙ rows_laid 24 8 (head n m) 1 numbers (long - 32) (32 * (m - n)) (omega arith) refl (omega (arith, f.sized.long, f.given, f.sized.fit))
     ∙ sym (append_assoc (head n m) (flat_map (row 24 8) numbers) (zeros (32 * (m - n)))) in
     r ∙ ap (λ xs. with_rows 16 2 xs (n + 1) links) a
     ∙ rows_laid 16 2 front (n + 1) links (32 * (m - n)) 0 (omega arith) (omega (arith, length-append (head n m) (flat_map (row 24 8) numbers), length_rows 24 8 numbers (omega arith), f.given)) (omega (arith, length-map-range_with_len (after m) (n + 1) (m - n)))
@@ -79,12 +71,18 @@ module _ (n m : ℕ) (numbers : List ℕ) (f : Fit n m (32 * (m + 1)) (length nu
   bs = laid_out n m numbers
 
   after_low : (k : ℕ) → after m k < 2 ^ 16
-  after_low k = let w = f.most in grind (arith, nat_tests)
+  after_low k = let w = f.sized.most in grind (arith, nat_tests)
 
   length_bs : length bs ≡ 32 * (m + 1)
   unfolding laid_out bs
   length_bs =
-      omega (arith, length-append (flat_map (row 24 8) numbers) (flat_map (row 16 2) (map (after m) (range_with_len (n + 1) (m - n)))), length_rows 24 8 numbers (omega arith), length_rows 16 2 (map (after m) (range_with_len (n + 1) (m - n))) (omega arith), length-map-range_with_len (after m) (n + 1) (m - n), f.given, f.within)
+      omega (arith, length-append (flat_map (row 24 8) numbers) (flat_map (row 16 2) (map (after m) (range_with_len (n + 1) (m - n)))), length_rows 24 8 numbers (omega arith), length_rows 16 2 (map (after m) (range_with_len (n + 1) (m - n))) (omega arith), length-map-range_with_len (after m) (n + 1) (m - n), f.given, f.sized.fit)
+
+  is_sized : sized n m (32 * (m + 1)) ≡ true
+  is_sized =
+      and_from _ _
+      (and_from _ _ (and_from _ _ (and_from _ _ (le-leb 1 n f.sized.some) (le-leb n 128 f.sized.few)) (le-leb n m f.sized.fit)) (le-leb m 2047 f.sized.most))
+      (eq-eqb _ _ f.sized.long)
 
   magic_is : num bs 0 4 ≡ 0x50544831
   unfolding laid_out num bs
@@ -92,11 +90,11 @@ module _ (n m : ℕ) (numbers : List ℕ) (f : Fit n m (32 * (m + 1)) (length nu
 
   objects : objects_in bs ≡ n
   unfolding laid_out num bs
-  objects = num_digits 2 n (omega (arith, f.few))
+  objects = num_digits 2 n (omega (arith, f.sized.few))
 
   records : records_in bs ≡ m
   unfolding laid_out num bs
-  records = num_digits 2 m (omega (arith, f.most))
+  records = num_digits 2 m (omega (arith, f.sized.most))
 
   first : free_in bs ≡ after m n
   unfolding laid_out num bs
@@ -145,15 +143,7 @@ module _ (n m : ℕ) (numbers : List ℕ) (f : Fit n m (32 * (m + 1)) (length nu
 
   head_fits : header bs ≡ true
   head_fits =
-      and_from _ _
-      (and_from _ _
-      (and_from _ _
-      (and_from _ _
-      (and_from _ _ (and_from _ _ (eq-eqb _ _ magic_is) (le-leb 1 (objects_in bs) (omega (arith, objects, f.some)))) (le-leb (objects_in bs) 128 (omega (arith, objects, f.few))))
-      (le-leb (objects_in bs) (records_in bs) (omega (arith, objects, records, f.within))))
-      (le-leb (records_in bs) 2047 (omega (arith, records, f.most))))
-      (eq-eqb _ _ rest))
-      (eq-eqb (length bs) (32 * (records_in bs + 1)) (omega (arith, records, length_bs)))
+      and_from _ _ (and_from _ _ (eq-eqb _ _ magic_is) (rw (objects, records, length_bs) is_sized)) (eq-eqb _ _ rest)
 
   pads : (k : ℕ) → k < m → pad_at bs (k + 1) ≡ 0
   pads k l = ⊎_elim (λ h. (version k h).pad) (λ h. (free (k + 1) (omega arith) (omega arith)).pad) (cases_lt k n)
@@ -166,10 +156,10 @@ module _ (n m : ℕ) (numbers : List ℕ) (f : Fit n m (32 * (m + 1)) (length nu
         pads = λ k l. pads k (omega (arith, records));
         runs = λ o l.
             let b : o < n = omega (arith, objects) in
-            subst (Run bs (records_in bs) (o + 1)) (sym (single o b)) (refl, omega arith, omega (arith, records, f.within), (version o b).link);
-        spare = subst (λ i. Run bs i (free_in bs) (range_with_len (n + 1) (m - n))) (sym records) (subst (λ i. Run bs m i (range_with_len (n + 1) (m - n))) (sym first) (run_free n (m - n) (omega arith) (omega (arith, f.within))));
-        once = λ k l. once n m (k + 1) f.within (omega arith) (omega (arith, records));
-        blanks = blanks (n + 1) (m - n) (omega arith) (omega (arith, f.within));
+            subst (Run bs (records_in bs) (o + 1)) (sym (single o b)) (refl, omega arith, omega (arith, records, f.sized.fit), (version o b).link);
+        spare = subst (λ i. Run bs i (free_in bs) (range_with_len (n + 1) (m - n))) (sym records) (subst (λ i. Run bs m i (range_with_len (n + 1) (m - n))) (sym first) (run_free n (m - n) (omega arith) (omega (arith, f.sized.fit))));
+        once = λ k l. once n m (k + 1) f.sized.fit (omega arith) (omega (arith, records));
+        blanks = blanks (n + 1) (m - n) (omega arith) (omega (arith, f.sized.fit));
         rules = λ o l.
             let b : o < n = omega (arith, objects) in
             ap (λ ns. history (map (item_at bs) ns)) (single o b) ∙ ap (λ x. history (x ∷ [])) (version o b).item;

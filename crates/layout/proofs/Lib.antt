@@ -1,3 +1,4 @@
+pub mod Each
 pub mod Fields
 pub mod Parts
 pub mod Runs

@@ -1,12 +1,13 @@
 -- The lists of record numbers that bytes represent.
 use Rattle.std.proofs.Common.{◌≡◌, ℕ, ◌+◌, ◌<◌, Bool, true, List, [], ◌∷◌, map, length, get_or, sum_by, sym, refl, ap, ◌∙◌, subst, zero-add, arith}
-use Rattle.std.specs.List.{AllByRecursion}
+use Rattle.std.specs.List.{AllByRecursion, list_all}
 use Rattle.std.proofs.lemmas.List.Sums.{get_or-le-sum_by}
 use Rattle.std.proofs.ByRecursion.{All-from_get_or}
 use Rattle.std.proofs.lemmas.List.FromFn.{length-map-range_with_len, get_or-map-range_with_len, fill_by_all}
 use Rattle.std.proofs.lemmas.Bool.{eqb-true, eq-eqb, and_parts, and_from}
-use Rattle.layout.specs.Layout.{objects_in, records_in, free_in, item_at, pad_at, path, paths, whole, times, uses, each_of, blank, history, header, lawful}
-use Rattle.layout.proofs.Parts.{below, below_from, Parts, parts, from_parts}
+use Rattle.layout.specs.Layout.{objects_in, records_in, free_in, item_at, pad_at, path, paths, whole, times, uses, blank, history, header, lawful}
+use Rattle.layout.proofs.Each.{below, below_from}
+use Rattle.layout.proofs.Parts.{Parts, parts, from_parts}
 use Rattle.layout.proofs.Runs.{Run, run_ends, walk_run, trail_within}
 use Rattle.layout.proofs.Totals.{Within, total, total_same, total_plus, total_ones, total_times, total_all}
 
@@ -21,13 +22,13 @@ pub record Represents (bs : List ℕ) (css : List (List ℕ)) (free : List ℕ) 
   pub blanks : AllByRecursion (λ k. blank bs k ≡ true) free
   pub rules : (o : ℕ) → o < objects_in bs → history (map (item_at bs) (get_or css o [])) ≡ true
 
-pub each_parts : (ks : List ℕ) (t : ℕ → Bool) → each_of ks t ≡ true → AllByRecursion (λ k. t k ≡ true) ks
+pub each_parts : (ks : List ℕ) (t : ℕ → Bool) → list_all t ks ≡ true → AllByRecursion (λ k. t k ≡ true) ks
 each_parts [] t h = tt
-each_parts (k ∷ ks) t h = let p = and_parts (t k) (each_of ks t) h in (p.0, each_parts ks t p.1)
+each_parts (k ∷ ks) t h = let p = and_parts (t k) (list_all t ks) h in (p.0, each_parts ks t p.1)
 
-pub each_from : (ks : List ℕ) (t : ℕ → Bool) → AllByRecursion (λ k. t k ≡ true) ks → each_of ks t ≡ true
+pub each_from : (ks : List ℕ) (t : ℕ → Bool) → AllByRecursion (λ k. t k ≡ true) ks → list_all t ks ≡ true
 each_from [] t h = refl
-each_from (k ∷ ks) t h = and_from (t k) (each_of ks t) h.0 (each_from ks t h.1)
+each_from (k ∷ ks) t h = and_from (t k) (list_all t ks) h.0 (each_from ks t h.1)
 
 -- lawful bytes represent their paths
 pub path_at : (bs : List ℕ) (o : ℕ) → o < objects_in bs → get_or (paths bs) o [] ≡ path bs (o + 1)

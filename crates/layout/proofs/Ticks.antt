@@ -1,13 +1,14 @@
 -- What the marks of a walk say of its chain.
-use Rattle.std.proofs.Common.{◌≡◌, ℕ, ◌+◌, ◌-◌, ◌<◌, ◌≤◌, Bool, true, false, cond, eqb, List, [], ◌∷◌, ◌++◌, map, length, get_or, take, set, replicate, sum_by, sym, refl, ap, ◌∙◌, subst, ⊎_elim, arith}
-use Rattle.std.specs.List.{range_with_len}
+use Rattle.std.proofs.Common.{◌≡◌, ℕ, zero, suc, ◌+◌, ◌-◌, ◌<◌, ◌≤◌, Bool, true, false, cond, ◌&&◌, eqb, List, [], ◌∷◌, ◌++◌, map, length, get_or, take, drop, set, replicate, sum_by, sym, refl, ap, ◌∙◌, subst, ⊎_elim, arith}
+use Rattle.std.specs.List.{range_with_len, list_all}
 use Rattle.std.proofs.lemmas.List.Sums.{sum_by-set, sum_by-append, sum_by-take-le}
 use Rattle.std.proofs.lemmas.List.FromFn.{take-map-range_with_len, sum_by-map-range_with_len_more}
-use Rattle.std.proofs.lemmas.List.{get_or-set_same, get_or-set_other, get_or-replicate, get_or_past, length-replicate}
+use Rattle.std.proofs.lemmas.List.{get_or-set_same, get_or-set_other, get_or-replicate, get_or_past, length-replicate, drop_more}
 use Rattle.std.proofs.lemmas.Bool.{cases_eq, cases_lt, eqb-true, eq-eqb, ne_eqb, cond-true, cond-false, cond_both}
 use Rattle.layout.specs.Layout.{next_at, path, paths, whole, times, uses, records_in, objects_in, free_in, each_below, threaded}
-use Rattle.layout.specs.Marks.{tick, Marked}
-use Rattle.layout.proofs.Parts.{false_from, below, each_more, threads}
+use Rattle.layout.specs.Marks.{tick, Marked, AllMarked}
+use Rattle.layout.proofs.Each.{false_from, below, each_more}
+use Rattle.layout.proofs.Parts.{threads}
 use Rattle.layout.proofs.Runs.{Trail, Run, trail_more, trail_rest, trail_within, run_ends, walk_run}
 use Rattle.layout.proofs.Totals.{total, total_below, total_times, times_cons}
 
@@ -16,9 +17,6 @@ pub record Passed (bs : List ℕ) (from k : ℕ) (ss ts : List Bool) : Type 0 wh
   pub seen : List ℕ
   pub trail : Trail bs (records_in bs) from seen k
   pub ticks : (y : ℕ) → tick ts y ≡ tick ss y + times y seen
-
-pub passed_none : (bs : List ℕ) (from : ℕ) (ss : List Bool) → Passed bs from from ss ss
-passed_none bs from ss = record { seen = []; trail = refl; ticks = λ y. omega arith }
 
 tick_set : (ss : List Bool) (k y : ℕ) → k < length ss → get_or ss k false ≡ false → tick (set ss k true) y ≡ tick ss y + times y (k ∷ [])
 tick_set ss k y l f =
@@ -130,3 +128,21 @@ tick_none n y =
     (λ l. cond-false (get_or (replicate n false) y false) 1 0 (get_or-replicate n y false false l))
     (λ l. cond-false (get_or (replicate n false) y false) 1 0 (get_or_past (replicate n false) y false (omega (arith, length-replicate n false))))
     (cases_lt y n)
+
+-- what the marks say of each record
+mark_is : (b : Bool) (n : ℕ) → ◌≡◌ {A = ℕ} (cond b 1 0) n → b ≡ eqb n 1
+mark_is true n e = sym (eq-eqb n 1 (sym e))
+mark_is false n e = sym (ne_eqb n 1 (λ q. omega (arith, e)))
+
+marks_are : (bs : List ℕ) (ts : List Bool) → ((y : ℕ) → tick ts y ≡ uses bs y) → (a m : ℕ) → a + 1 + m ≤ length ts → list_all (λ b. b) (take m (drop (a + 1) ts)) ≡ list_all (λ k. eqb (uses bs (k + 1)) 1) (range_with_len a m)
+marks_are bs ts h a zero l = refl
+marks_are bs ts h a (suc m) l =
+    let e : take (suc m) (drop (a + 1) ts) ≡ get_or ts (a + 1) false ∷ take m (drop (a + 1 + 1) ts) = ap (take (suc m)) (drop_more ts (a + 1) false (omega arith)) in
+    let b : get_or ts (a + 1) false ≡ eqb (uses bs (a + 1)) 1 = mark_is _ _ (h (a + 1)) in
+    ap (list_all (λ b. b)) e ∙ ap (λ t. t && list_all (λ b. b) (take m (drop (a + 1 + 1) ts))) b
+    ∙ ap (λ t. eqb (uses bs (a + 1)) 1 && t) (marks_are bs ts h (a + 1) m (omega arith))
+
+pub marks_decide : (bs : List ℕ) (ts : List Bool) (n : ℕ) (r : Bool) → AllMarked bs ts true → n ≡ records_in bs → records_in bs < length ts → r ≡ list_all (λ b. b) (take n (drop 1 ts)) → r ≡ threaded bs
+marks_decide bs ts n r h e l a =
+    let c : threaded bs ≡ each_below (records_in bs) (λ k. eqb (uses bs (k + 1)) 1) = rw (h.0, h.1) refl in
+    a ∙ ap (λ i. list_all (λ b. b) (take i (drop 1 ts))) e ∙ marks_are bs ts h.2 0 (records_in bs) (omega arith) ∙ sym c

@@ -1,13 +1,13 @@
 -- Bytes that are laid out anew.
-use Rattle.std.specs.Prelude.{◌≡◌, ℕ, ◌+◌, ◌-◌, ◌*◌, Bool, true, cond, ◌&&◌, List, [], ◌∷◌, ◌++◌, map, replicate, ◌==◌, nat_le, nat_lt}
+use Rattle.std.specs.Prelude.{◌≡◌, ℕ, ◌+◌, ◌-◌, ◌*◌, Bool, true, cond, ◌&&◌, List, [], ◌∷◌, ◌++◌, map, replicate, ◌==◌, nat_lt}
 use Rattle.std.specs.List.{range_with_len, flat_map}
 use Rattle.history.specs.Chain.{fresh_item}
 use Rattle.layout.specs.Field.{digits, put_num}
-use Rattle.layout.specs.Layout.{magic, objects_in, records_in, free_in, item_at, path, paths, lawful}
+use Rattle.layout.specs.Layout.{magic, objects_in, records_in, free_in, item_at, path, paths, sized, lawful}
 
 -- n objects and m records fit `size` bytes, with `count` numbers
 abbrev pub fits : ℕ → ℕ → ℕ → ℕ → Bool
-fits n m size count = nat_le 1 n && nat_le n 128 && nat_le n m && nat_le m 2047 && size == 32 * (m + 1) && count == n
+fits n m size count = sized n m size && count == n
 
 abbrev pub zeros : ℕ → List ℕ
 zeros n = replicate n 0

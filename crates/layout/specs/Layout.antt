@@ -1,6 +1,6 @@
 -- Histories laid out in bytes: a header of 32 bytes, and records of 32 bytes that are chained by their numbers.
 use Rattle.std.specs.Prelude.{ℕ, zero, suc, ◌+◌, ◌*◌, ◌^◌, Bool, true, false, cond, ◌&&◌, List, [], ◌∷◌, map, length, Some, None, sum_by, count_by, Option, ◌==◌, nat_eq, nat_le, nat_lt}
-use Rattle.std.specs.List.{range_with_len}
+use Rattle.std.specs.List.{range_with_len, list_all}
 use Rattle.history.specs.declared.item.Item.{Item}
 use Rattle.layout.specs.declared.record.Record.{Record}
 use Rattle.layout.specs.Field.{num}
@@ -63,14 +63,9 @@ paths bs = map (λ o. path bs (o + 1)) (range_with_len 0 (objects_in bs))
 abbrev pub uses : List ℕ → ℕ → ℕ
 uses bs k = times k (path bs (free_in bs)) + sum_by (times k) (paths bs)
 
--- a test of each number below n, and of each number in a list
+-- a test of each number below n
 abbrev pub each_below : ℕ → (ℕ → Bool) → Bool
-each_below zero t = true
-each_below (suc n) t = each_below n t && t n
-
-abbrev pub each_of : List ℕ → (ℕ → Bool) → Bool
-each_of [] t = true
-each_of (k ∷ ks) t = t k && each_of ks t
+each_below n t = list_all t (range_with_len 0 n)
 
 abbrev pub vacant : Item → Bool
 vacant x = x.start == 0 && x.«end» == 0 && x.mark == 0 && x.number == 0
@@ -98,11 +93,13 @@ history (x ∷ xs) = x.start == 0 && x.mark == 0 && ascends (x ∷ xs)
 abbrev pub magic : List ℕ
 magic = 0x50 ∷ 0x54 ∷ 0x48 ∷ 0x31 ∷ []
 
--- the magic bytes, 1 to 128 objects, at most 2047 records and one at least for each object, and zeros
+-- the size of a table: 1 to 128 objects n, at most 2047 records m and one at least for each object
+abbrev pub sized : ℕ → ℕ → ℕ → Bool
+sized n m size = nat_le 1 n && nat_le n 128 && nat_le n m && nat_le m 2047 && size == 32 * (m + 1)
+
+-- the magic bytes, a size, and zeros
 abbrev pub header : List ℕ → Bool
-header bs =
-    (num bs 0 4 == 0x50544831) && nat_le 1 (objects_in bs) && nat_le (objects_in bs) 128 && nat_le (objects_in bs) (records_in bs)
-    && nat_le (records_in bs) 2047 && num bs 10 22 == 0 && length bs == 32 * (records_in bs + 1)
+header bs = (num bs 0 4 == 0x50544831) && sized (objects_in bs) (records_in bs) (length bs) && num bs 10 22 == 0
 
 -- every chain ends in the table, and each record is in one of them
 abbrev pub threaded : List ℕ → Bool
@@ -116,5 +113,5 @@ lawful bs =
     header bs
     && each_below (records_in bs) (λ k. nat_eq (pad_at bs (k + 1)) 0)
     && threaded bs
-    && each_of (path bs (free_in bs)) (blank bs)
+    && list_all (blank bs) (path bs (free_in bs))
     && each_below (objects_in bs) (λ o. history (items bs (o + 1)))

@@ -3,3 +3,4 @@ pub mod Layout
 pub mod Edits
 pub mod Marks
 pub mod Laid
+pub mod Walks

@@ -1,9 +1,11 @@
-// The rules of the items along a chain that ends in the table.
-ghost use Rattle.std.specs.Prelude.{◌≡◌, ◌+◌, ◌*◌, true, ◌&&◌, length, ◌==◌};
-ghost use Rattle.layout.specs.Layout.{records_in, whole, path, items, each_of, vacant, blank, spanned, ascends, history};
+// The rules of the items along a chain.
+ghost use Rattle.std.specs.Prelude.{◌≡◌, ◌&&◌, ◌==◌};
+ghost use Rattle.std.specs.List.{list_all};
+ghost use Rattle.layout.specs.Layout.{path, items, vacant, blank, spanned, ascends, history};
 
-use crate::record::record_at;
-use history::item::{Item, LAST_MARK, TIME_LIMIT, VERSION};
+use crate::record::item_at;
+use crate::walk::Walk;
+use history::item::{Item, LAST_MARK, TIME_LIMIT};
 
 fn is_vacant(item: Item) -> bool
     ensures { result ≡ vacant item }
@@ -20,53 +22,38 @@ fn is_spanned(item: Item) -> bool
 fn begins(item: Item) -> bool
     ensures { result ≡ (item.start == 0 && item.mark == 0) }
 {
-    item.start == 0 && item.mark == VERSION
+    item.start == 0 && item.is_version()
 }
 
 // Whether the items of a chain are blank.
 pub(crate) fn blanks_from(bytes: &[u8], from: u16) -> bool
-    requires size { length bytes.now ≡ 32 * (records_in bytes.now + 1) }
-    requires chain { whole bytes.now from ≡ true }
-    ensures { result ≡ each_of (path bytes.now from) (blank bytes.now) }
+    ensures { result ≡ list_all (blank bytes.now) (path bytes.now from) }
 {
-    let mut k = from;
-    while let Some(record) = record_at(bytes, k) {
-        if !is_vacant(record.item) {
-            return false;
-        }
-        k = record.next;
-    }
-    true
+    Walk::new(bytes, from).all(|k| is_vacant(item_at(bytes, k)))
 }
 
 // Whether the items of a chain ascend.
 fn ascends_from(bytes: &[u8], from: u16) -> bool
-    requires size { length bytes.now ≡ 32 * (records_in bytes.now + 1) }
-    requires chain { whole bytes.now from ≡ true }
     ensures { result ≡ ascends (items bytes.now from) }
 {
-    let mut k = from;
     // The next item starts at `low` at the earliest.
     let mut low = 0;
-    while let Some(record) = record_at(bytes, k) {
-        let item = record.item;
+    for k in Walk::new(bytes, from) {
+        let item = item_at(bytes, k);
         if item.start < low || !is_spanned(item) {
             return false;
         }
         low = item.end + 1;
-        k = record.next;
     }
     true
 }
 
 // Whether the items of a chain are a history.
 pub(crate) fn history_from(bytes: &[u8], from: u16) -> bool
-    requires size { length bytes.now ≡ 32 * (records_in bytes.now + 1) }
-    requires chain { whole bytes.now from ≡ true }
     ensures { result ≡ history (items bytes.now from) }
 {
-    let Some(first) = record_at(bytes, from) else {
-        return false;
-    };
-    begins(first.item) && ascends_from(bytes, from)
+    Walk::new(bytes, from)
+        .next()
+        .is_some_and(|first| begins(item_at(bytes, first)))
+        && ascends_from(bytes, from)
 }

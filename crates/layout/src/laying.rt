@@ -1,25 +1,30 @@
 // Bytes laid out anew.
-ghost use Rattle.std.specs.Prelude.{◌≡◌, ◌+◌, ◌-◌, ◌*◌, ◌<◌, ◌≤◌, true, ◌++◌, map, length, is_ok, if◌then◌else◌};
+ghost use Rattle.std.specs.Prelude.{◌≡◌, ◌+◌, ◌-◌, ◌≤◌, true, ◌++◌, map, length, is_ok, if◌then◌else◌};
 ghost use Rattle.std.specs.List.{range_with_len};
 ghost use Rattle.layout.specs.Laid.{fits, zeros, after, head, with_rows, laid_out, Laid};
 
-use crate::field::{put, put_u16, put_u64};
-use crate::lawful::MAGIC;
+use crate::field::put;
+use crate::lawful::{MAGIC, is_sized};
 use crate::record::set_next;
+use std::error::Error;
+use std::fmt;
 
 // The objects, records and numbers do not fit the bytes.
 #[derive(Clone, Copy, PartialEq, Eq, Debug)]
 pub struct Unfit;
 
+impl fmt::Display for Unfit {
+    fn fmt<W: fmt::Write>(&self, f: &mut fmt::Formatter<W>) -> fmt::Result {
+        f.write_str("the objects, records and numbers do not fit the bytes")
+    }
+}
+
+impl Error for Unfit {}
+
 fn suits(bytes: &[u8], objects: u16, records: u16, numbers: &[u64]) -> bool
     ensures { result ≡ fits objects records (length bytes.now) (length numbers.now) }
 {
-    1 <= objects
-        && objects <= 128
-        && objects <= records
-        && records <= 2047
-        && bytes.len() == 32 * (records as usize + 1)
-        && numbers.len() == objects as usize
+    is_sized(objects, records, bytes.len()) && numbers.len() == usize::from(objects)
 }
 
 // The record after k, or 0 after the last.
@@ -36,9 +41,9 @@ fn clear(bytes: &mut [u8], objects: u16, records: u16)
 {
     bytes.fill(0);
     put(bytes, 0, &MAGIC);
-    put_u16(bytes, 4, objects);
-    put_u16(bytes, 6, records);
-    put_u16(bytes, 8, follower(objects, records));
+    put(bytes, 4, &objects.to_be_bytes());
+    put(bytes, 6, &records.to_be_bytes());
+    put(bytes, 8, &follower(objects, records).to_be_bytes());
 }
 
 // The number of each version, from record 1 on.
@@ -46,14 +51,15 @@ fn number(bytes: &mut [u8], numbers: &[u64])
     requires { length numbers.now ≤ 128 }
     ensures { bytes.new ≡ with_rows 24 8 bytes.old 1 numbers.now }
 {
-    for o in 0..numbers.len() {
-        put_u64(bytes, 32 * (o + 1) + 24, numbers[o]);
+    for (o, number) in numbers.iter().enumerate() {
+        put(bytes, 32 * (o + 1) + 24, &number.to_be_bytes());
     }
 }
 
 // Chains the records after `objects`, up to `last`.
 fn spare(bytes: &mut [u8], objects: u16, last: u16)
-    requires { (objects ≤ last) × (last ≤ 2047) }
+    requires order { objects ≤ last }
+    requires most { last ≤ 2047 }
     ensures { bytes.new ≡ with_rows 16 2 bytes.old (objects + 1) (map (after last) (range_with_len (objects + 1) (last - objects))) }
 {
     for k in objects..last {

@@ -2,8 +2,10 @@
 #![tactic(auto)]
 
 mod chain;
-pub mod field;
+mod field;
+pub mod header;
 pub mod lawful;
 pub mod laying;
 mod marks;
 pub mod record;
+pub mod walk;

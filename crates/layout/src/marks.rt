@@ -3,10 +3,11 @@ ghost use Rattle.std.specs.Prelude.{◌≡◌, ℕ, ◌+◌, ◌*◌, ◌<◌, t
 ghost use Rattle.layout.specs.Layout.{header, records_in, threaded};
 ghost use Rattle.layout.specs.Marks.{tick, Marked, AllMarked};
 
-use crate::field::get_u16;
+use crate::header::{free_in, objects_in, records_in};
 use crate::record::record_at;
 
-// Marks the records of a chain. Refused where the chain leaves the table or comes to a marked record.
+// Marks the records of a chain. Refused where the chain leaves the table or comes to a marked record:
+// a `Walk` would end there and not tell.
 fn mark_from(bytes: &[u8], from: u16, seen: &mut [bool]) -> bool
     requires size { length bytes.now ≡ 32 * (records_in bytes.now + 1) }
     requires few { records_in bytes.now < length seen.old }
@@ -17,10 +18,10 @@ fn mark_from(bytes: &[u8], from: u16, seen: &mut [bool]) -> bool
         let Some(record) = record_at(bytes, k) else {
             return false;
         };
-        if seen[k as usize] {
+        if seen[usize::from(k)] {
             return false;
         }
-        seen[k as usize] = true;
+        seen[usize::from(k)] = true;
         k = record.next;
     }
     true
@@ -33,12 +34,11 @@ fn mark_all(bytes: &[u8], seen: &mut [bool]) -> bool
     requires clear { (y : ℕ) → tick seen.old y ≡ 0 }
     ensures { AllMarked bytes.now seen.new result }
 {
-    let objects = get_u16(bytes, 4);
-    let free = get_u16(bytes, 8);
-    if !mark_from(bytes, free, seen) {
+    if !mark_from(bytes, free_in(bytes), seen) {
         return false;
     }
-    for o in 0..objects {
+    // A `for`: of the marks that a closure writes, nothing is known after `all`.
+    for o in 0..objects_in(bytes) {
         if !mark_from(bytes, o + 1, seen) {
             return false;
         }
@@ -51,15 +51,7 @@ pub(crate) fn is_threaded(bytes: &[u8]) -> bool
     requires { header bytes.now ≡ true }
     ensures { result ≡ threaded bytes.now }
 {
-    let records = get_u16(bytes, 6);
+    let records = usize::from(records_in(bytes));
     let mut seen = [false; 2048];
-    if !mark_all(bytes, &mut seen) {
-        return false;
-    }
-    for k in 0..records {
-        if !seen[k as usize + 1] {
-            return false;
-        }
-    }
-    true
+    mark_all(bytes, &mut seen) && seen[1..=records].iter().all(|marked| *marked)
 }

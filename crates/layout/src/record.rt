@@ -1,9 +1,9 @@
 // The records of a table of bytes, by their numbers from 1. Record 0 is the header.
-ghost use Rattle.std.specs.Prelude.{◌≡◌, ◌≤◌, true, length};
+ghost use Rattle.std.specs.Prelude.{◌≡◌, ◌*◌, ◌≤◌, true, length};
 ghost use Rattle.layout.specs.Edits.{with_end, with_next, with_mark, with_item, with_free, ended, marked, Changed, Freed};
 ghost use Rattle.layout.specs.Layout.{item_at, next_at, has_record, record_in};
 
-use crate::field::{get_u8, get_u16, get_u64, put_u8, put_u16, put_u64};
+use crate::field::{byte, bytes_at, put};
 use history::item::Item;
 
 // An item, and the number of the next record of its chain, or 0.
@@ -13,16 +13,23 @@ pub struct Record {
     pub next: u16,
 }
 
+// Where record k begins.
+pub(crate) fn offset(k: u16) -> usize
+    ensures { result ≡ 32 * k }
+{
+    32 * usize::from(k)
+}
+
 // The item of record k; bytes past the end count as 0.
 pub fn item_at(bytes: &[u8], k: u16) -> Item
     ensures { result ≡ item_at bytes.now k }
 {
-    let at = 32 * k as usize;
+    let at = offset(k);
     Item {
-        start: get_u64(bytes, at),
-        end: get_u64(bytes, at + 8),
-        mark: get_u8(bytes, at + 18),
-        number: get_u64(bytes, at + 24),
+        start: u64::from_be_bytes(bytes_at(bytes, at)),
+        end: u64::from_be_bytes(bytes_at(bytes, at + 8)),
+        mark: byte(bytes, at, 18),
+        number: u64::from_be_bytes(bytes_at(bytes, at + 24)),
     }
 }
 
@@ -30,14 +37,14 @@ pub fn item_at(bytes: &[u8], k: u16) -> Item
 pub fn next_at(bytes: &[u8], k: u16) -> u16
     ensures { result ≡ next_at bytes.now k }
 {
-    get_u16(bytes, 32 * k as usize + 16)
+    u16::from_be_bytes(bytes_at(bytes, offset(k) + 16))
 }
 
 // Record k, or nothing where k is 0 or the record does not lie wholly in the bytes.
 pub fn record_at(bytes: &[u8], k: u16) -> Option<Record>
     ensures { result ≡ record_in bytes.now k }
 {
-    if k == 0 || bytes.len() < 32 * k as usize + 32 {
+    if k == 0 || bytes.len() < offset(k) + 32 {
         return None;
     }
     Some(Record {
@@ -50,32 +57,32 @@ pub fn set_end(bytes: &mut [u8], k: u16, end: u64)
     ensures bytes { bytes.new ≡ with_end bytes.old k «end» }
     ensures change { has_record bytes.old k ≡ true → Changed bytes.old k (ended «end» (item_at bytes.old k)) (next_at bytes.old k) bytes.new }
 {
-    put_u64(bytes, 32 * k as usize + 8, end);
+    put(bytes, offset(k) + 8, &end.to_be_bytes());
 }
 
 pub fn set_next(bytes: &mut [u8], k: u16, next: u16)
     ensures bytes { bytes.new ≡ with_next bytes.old k next }
     ensures change { has_record bytes.old k ≡ true → Changed bytes.old k (item_at bytes.old k) next bytes.new }
 {
-    put_u16(bytes, 32 * k as usize + 16, next);
+    put(bytes, offset(k) + 16, &next.to_be_bytes());
 }
 
 pub fn set_mark(bytes: &mut [u8], k: u16, mark: u8)
     ensures bytes { bytes.new ≡ with_mark bytes.old k mark }
     ensures change { has_record bytes.old k ≡ true → Changed bytes.old k (marked mark (item_at bytes.old k)) (next_at bytes.old k) bytes.new }
 {
-    put_u8(bytes, 32 * k as usize + 18, mark);
+    put(bytes, offset(k) + 18, &mark.to_be_bytes());
 }
 
 pub fn set_item(bytes: &mut [u8], k: u16, item: Item)
     ensures bytes { bytes.new ≡ with_item bytes.old k item }
     ensures change { has_record bytes.old k ≡ true → Changed bytes.old k item (next_at bytes.old k) bytes.new }
 {
-    let at = 32 * k as usize;
-    put_u64(bytes, at, item.start);
-    put_u64(bytes, at + 8, item.end);
-    put_u8(bytes, at + 18, item.mark);
-    put_u64(bytes, at + 24, item.number);
+    let at = offset(k);
+    put(bytes, at, &item.start.to_be_bytes());
+    put(bytes, at + 8, &item.end.to_be_bytes());
+    put(bytes, at + 18, &item.mark.to_be_bytes());
+    put(bytes, at + 24, &item.number.to_be_bytes());
 }
 
 // Makes k the first free record.
@@ -83,5 +90,5 @@ pub fn set_free(bytes: &mut [u8], k: u16)
     ensures bytes { bytes.new ≡ with_free bytes.old k }
     ensures change { 10 ≤ length bytes.old → Freed bytes.old k bytes.new }
 {
-    put_u16(bytes, 8, k);
+    put(bytes, 8, &k.to_be_bytes());
 }

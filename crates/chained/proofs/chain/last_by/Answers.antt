@@ -1,28 +1,21 @@
-use Rattle.std.proofs.Common.{sym, ap, ◌∙◌}
-use Rattle.std.proofs.lemmas.Bool.{le-leb, lt-leb}
+use Rattle.std.proofs.Common.{None, sym, ap, refl, rules, ◌∙◌}
+use borrow.Author.Tests.{tests}
+use Rattle.std.specs.List.{last_or}
+use Rattle.std.specs.Option.{unwrap_or}
+use Rattle.std.proofs.lemmas.List.{map-id}
+use Rattle.std.proofs.lemmas.Iterator.{items_from_drains}
+use Rattle.std.proofs.lemmas.Iterator.Consumers.{YieldsList-from_first, YieldsList-at}
+use Rattle.std.proofs.lemmas.Iterator.Search.{YieldsList-from_take_while}
 use Rattle.history.specs.Chain.{starts_by}
-use Rattle.chained.specs.Edits.{last_by}
-use Rattle.layout.proofs.Reading.{step, stop}
-use Rattle.chained.proofs.Walks.{last_here, last_next}
+use Rattle.layout.specs.Layout.{item_at}
+use Rattle.layout.specs.Walks.{left_of}
+use Rattle.chained.proofs.Walks.{last_is}
 use Rattle.chained.proofs.chain.last_by.Goals as goal
-
-pub returns-then-record-time : goal.returns-then-record-time
-returns-then-record-time c =
-    let s = step _ _ _ c.loop-record.invariant.0 c.in-Some.ensures in
-    last_here c.args.bytes.now c.args.time c.loop-record.k c.loop-record.last _ _ _ c.loop-record.invariant.1 s.nodes
-    (ap (starts_by c.args.time) (sym s.read.item) ∙ lt-leb _ _ c.if-record-time.true)
-
-pub loop-record-smaller : goal.loop-record-smaller
-loop-record-smaller c = (step _ _ _ c.loop-record.invariant.0 c.in-Some.ensures).shorter
-
-pub loop-record-preserved : goal.loop-record-preserved
-loop-record-preserved c =
-    let s = step _ _ _ c.loop-record.invariant.0 c.in-Some.ensures in (
-      s.chain,
-      last_next c.args.bytes.now c.args.time c.loop-record.k c.loop-record.last _ _ _ c.loop-record.invariant.1 s.nodes
-          (ap (starts_by c.args.time) (sym s.read.item) ∙ le-leb _ _ c.if-record-time.false),
-    )
 
 pub returns : goal.returns
 returns c =
-    sym (ap (last_by c.args.bytes.now c.args.time c.loop-record.last) (stop _ _ c.requires.size c.loop-record.invariant.0 c.in_default.ensures)) ∙ c.loop-record.invariant.1
+    let d = c.last.ensures.ran in
+    let e =
+    items_from_drains d.0 (d.1.1.0, d.1.1.1, λ _. (d.1.0, d.1.1.2))
+    (YieldsList-from_take_while _ (λ k. starts_by c.args.time (item_at c.args.bytes.now k)) (YieldsList-at c.take_while.ensures.source (YieldsList-from_first (λ k. k) left_of {s = c.new.result} _ c.new.ensures)) c.take_while.ensures.closure c.take_while.ensures.done (λ x b q k. search (rules, tests))) in
+    c.unwrap_or.ensures ∙ ap (λ o. unwrap_or o 0) (d.2 ∙ ap (last_or None) (sym (map-id d.0) ∙ e)) ∙ sym (last_is c.args.bytes.now c.args.time 0 _ None refl)

@@ -1,23 +1,14 @@
-use Rattle.std.proofs.Common.{map, sym, refl, ap, ◌∙◌}
-use Rattle.history.specs.Chain.{nth_item}
-use Rattle.layout.specs.Layout.{item_at}
-use Rattle.layout.proofs.Reading.{step, stop}
-use Rattle.chained.proofs.Walks.{nth_here, nth_next}
+use Rattle.std.proofs.Common.{◌∙◌}
+use Rattle.std.proofs.lemmas.Iterator.Consumers.{nth_from_yields_List, YieldsList-from_first}
+use Rattle.layout.specs.Walks.{left_of}
+use Rattle.chained.proofs.Walks.{nth_some, nth_none}
 use Rattle.chained.proofs.chain.nth_from.Goals as goal
 
-pub returns-then-left-eq0 : goal.returns-then-left-eq0
-returns-then-left-eq0 c =
-    let s = step _ _ _ c.loop-record.invariant.0 c.in-Some.ensures in
-    nth_here _ _ _ _ c.loop-record.left _ c.loop-record.invariant.1 s.items refl c.if-left-eq0.true
-
-pub loop-record-smaller : goal.loop-record-smaller
-loop-record-smaller c = (step _ _ _ c.loop-record.invariant.0 c.in-Some.ensures).shorter
-
-pub loop-record-preserved : goal.loop-record-preserved
-loop-record-preserved c =
-    let s = step _ _ _ c.loop-record.invariant.0 c.in-Some.ensures in
-    (s.chain, nth_next _ _ _ c.loop-record.left _ c.loop-record.invariant.1 s.items c.if-left-eq0.false)
+pub returns-in_err-k : goal.returns-in_err-k
+returns-in_err-k c =
+    c.from_residual.ensures
+    ∙ nth_none c.args.bytes.now _ c.args.place c.nth.result (nth_from_yields_List _ c.nth.new.self _ c.nth.ensures.ran (YieldsList-from_first (λ k. k) left_of {s = c.new.result} _ c.new.ensures)) c.in_err-k.was
 
 pub returns : goal.returns
 returns c =
-    sym (ap (λ ns. nth_item (map (item_at c.args.bytes.now) ns) c.loop-record.left) (stop _ _ c.requires.size c.loop-record.invariant.0 c.in_default.ensures)) ∙ c.loop-record.invariant.1
+    nth_some c.args.bytes.now _ c.args.place c.nth.result (nth_from_yields_List _ c.nth.new.self _ c.nth.ensures.ran (YieldsList-from_first (λ k. k) left_of {s = c.new.result} _ c.new.ensures)) c.in_ok-k.k _ c.in_ok-k.was c.item_at.ensures

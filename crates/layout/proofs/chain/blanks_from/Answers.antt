@@ -1,22 +1,11 @@
-use Rattle.std.proofs.Common.{sym, ap, ◌∙◌}
-use Rattle.layout.specs.Layout.{vacant, blank, each_of}
-use Rattle.layout.proofs.Reading.{step, stop}
-use Rattle.layout.proofs.Ascending.{each_here, each_next}
+use Rattle.std.proofs.Common.{rules}
+use borrow.Author.Tests.{tests}
+use Rattle.std.proofs.lemmas.Iterator.Search.{all_from_yields_List}
+use Rattle.std.proofs.lemmas.Iterator.Consumers.{YieldsList-from_first}
+use Rattle.layout.specs.Layout.{blank}
+use Rattle.layout.specs.Walks.{left_of}
 use Rattle.layout.proofs.chain.blanks_from.Goals as goal
-
-pub returns-then-not-is_vacant : goal.returns-then-not-is_vacant
-returns-then-not-is_vacant c =
-    let s = step _ _ _ c.loop-record.invariant.0 c.in-Some.ensures in
-    each_here (blank c.args.bytes.now) _ _ _ _ c.loop-record.invariant.1 s.nodes (sym (c.if-not-is_vacant.ensures ∙ ap vacant s.read.item))
-
-pub loop-record-smaller : goal.loop-record-smaller
-loop-record-smaller c = (step _ _ _ c.loop-record.invariant.0 c.in-Some.ensures).shorter
-
-pub loop-record-preserved : goal.loop-record-preserved
-loop-record-preserved c =
-    let s = step _ _ _ c.loop-record.invariant.0 c.in-Some.ensures in
-    (s.chain, each_next (blank c.args.bytes.now) _ _ _ _ c.loop-record.invariant.1 s.nodes (sym (c.if-not-is_vacant.ensures ∙ ap vacant s.read.item)))
 
 pub returns : goal.returns
 returns c =
-    sym (ap (λ ns. each_of ns (blank c.args.bytes.now)) (stop _ _ c.requires.size c.loop-record.invariant.0 c.in_default.ensures)) ∙ c.loop-record.invariant.1
+    all_from_yields_List (blank c.args.bytes.now) c.all.new.self _ _ c.all.ensures.ran (YieldsList-from_first (λ k. k) left_of {s = c.new.result} _ c.new.ensures) (λ x b q k. search (rules, tests))

@@ -1,16 +1,11 @@
-use Rattle.std.proofs.Common.{◌+◌, sym, arith}
-use Rattle.std.proofs.lemmas.Bool.{ne_eqb}
-use Rattle.layout.proofs.Fields.{num_none, num_more, num_grows}
+use Rattle.std.proofs.Common.{◌+◌, eqb, get_or, ◌∙◌, rules, refl, arith}
+use borrow.Author.Tests.{tests}
+use Rattle.std.proofs.lemmas.Iterator.{YieldsList-from_range}
+use Rattle.std.proofs.lemmas.Iterator.Search.{all_from_yields_List}
+use Rattle.layout.proofs.Fields.{all_zero}
 use Rattle.layout.proofs.lawful.zero_at.Goals as goal
 
-pub loop-i-init : goal.loop-i-init
-loop-i-init c = num_none c.args.bytes.now c.args.at
-
-pub returns-then-byte-ne0 : goal.returns-then-byte-ne0
-returns-then-byte-ne0 c =
-    sym (ne_eqb _ _
-    (λ e. c.if-byte-ne0.true
-    (omega (arith, e, num_more c.args.bytes.now c.args.at c.loop-i.i, num_grows c.args.bytes.now c.args.at (c.loop-i.i + 1) c.args.count (omega arith)))))
-
-pub loop-i-preserved : goal.loop-i-preserved
-loop-i-preserved c = omega (arith, num_more c.args.bytes.now c.args.at c.loop-i.i)
+pub returns : goal.returns
+returns c =
+    all_from_yields_List (λ i. eqb (get_or c.args.bytes.now (c.args.at + i) 0) 0) _ _ _ c.all.ensures.ran (YieldsList-from_range 0 c.args.count c.args.count refl (omega arith)) (λ x b q k. search (rules, tests))
+    ∙ all_zero c.args.bytes.now c.args.at c.args.count

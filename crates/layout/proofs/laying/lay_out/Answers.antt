@@ -15,5 +15,5 @@ returns c =
       bytes = e ∙ sym (cond-true _ _ _ h);
       laid = λ _.
           subst (Laid c.args.objects c.args.records c.args.numbers.now) (sym e)
-          (laid _ _ _ (subst (λ k. Fit c.args.objects c.args.records k (length c.args.numbers.now)) f.long f) (λ i. omega (arith, c.type_inv.numbers i)));
+          (laid _ _ _ (subst (λ k. Fit c.args.objects c.args.records k (length c.args.numbers.now)) f.sized.long f) (λ i. omega (arith, c.type_inv.numbers i)));
     }

@@ -1,20 +1,15 @@
-use Rattle.std.proofs.Common.{◌≡◌, ℕ, ◌+◌, eqb, sym, refl, ◌∙◌, arith}
-use Rattle.std.proofs.lemmas.Bool.{eq-eqb, ne_eqb, and_right, cond-true, cond-false}
-use Rattle.layout.specs.Layout.{records_in, uses}
-use Rattle.layout.specs.Marks.{tick}
-use Rattle.layout.proofs.Parts.{each_fails, each_more}
-use Rattle.layout.proofs.Ticks.{tick_none}
+use Rattle.std.proofs.Common.{rules, arith}
+use borrow.Author.Tests.{tests}
+use Rattle.std.proofs.lemmas.Iterator.{YieldsList-from_slice}
+use Rattle.std.proofs.lemmas.Iterator.Search.{all_from_yields_List}
+use Rattle.layout.proofs.Parts.{header_parts}
+use Rattle.layout.proofs.Ticks.{tick_none, marks_decide}
 use Rattle.layout.proofs.marks.is_threaded.Goals as goal
 
-pub mark_all-requires : goal.mark_all-requires
-mark_all-requires c = record { header = c.requires; few = refl; clear = tick_none 2048 }
+pub mark_all-requires-clause-clear : goal.mark_all-requires-clause-clear
+mark_all-requires-clause-clear c = tick_none 2048
 
-pub returns-then-not-seen-k : goal.returns-then-not-seen-k
-returns-then-not-seen-k c =
-    let t : ◌≡◌ {A = ℕ} (tick c.mark_all.new.seen (c.loop-k.k + 1)) 0 = cond-false _ 1 0 c.if-not-seen-k.true in
-    sym (and_right _ _ (each_fails (records_in c.args.bytes.now) (λ k. eqb (uses c.args.bytes.now (k + 1)) 1) c.loop-k.k (omega arith) (ne_eqb _ _ (λ q. omega (arith, q, t, c.if-not-mark_all.ensures.2 (c.loop-k.k + 1))))))
-
-pub loop-k-preserved : goal.loop-k-preserved
-loop-k-preserved c =
-    each_more c.loop-k.k (λ k. eqb (uses c.args.bytes.now (k + 1)) 1) c.loop-k.invariant
-    (eq-eqb _ _ (sym (c.if-not-mark_all.ensures.2 (c.loop-k.k + 1)) ∙ cond-true _ 1 0 c.if-not-seen-k.false))
+pub returns-then-mark_all : goal.returns-then-mark_all
+returns-then-mark_all c =
+    marks_decide c.args.bytes.now c.mark_all.new.seen _ _ c.if-mark_all.ensures (omega (arith, c.from-records.ensures, c.records_in.ensures)) (omega (arith, (header_parts _ c.requires).size.most, c.mark_all.auto.seen))
+    (all_from_yields_List (λ b. b) _ _ _ c.all.ensures.ran (YieldsList-from_slice _ c.iter.ensures.rest) (λ x b q k. search (rules, tests)))

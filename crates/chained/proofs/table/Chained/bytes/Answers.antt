@@ -1,4 +1,4 @@
-use Rattle.chained.proofs.Soundness.{reopens}
+use Rattle.chained.proofs.Operations.{reopens}
 use Rattle.chained.proofs.table.Chained.bytes.Goals as goal
 
 pub returns : goal.returns

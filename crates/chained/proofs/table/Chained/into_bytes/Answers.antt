@@ -1,6 +1,6 @@
 use Rattle.std.proofs.Common.{sym, subst}
 use Rattle.chained.specs.Means.{meaning, Reopens}
-use Rattle.chained.proofs.Soundness.{reopens}
+use Rattle.chained.proofs.Operations.{reopens}
 use Rattle.chained.proofs.table.Chained.into_bytes.Goals as goal
 
 pub returns : goal.returns

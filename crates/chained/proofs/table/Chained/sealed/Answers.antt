@@ -6,9 +6,9 @@ use Rattle.chained.proofs.table.Chained.sealed.Goals as goal
 pub returns-then-place-start : goal.returns-then-place-start
 returns-then-place-start c =
     let p = c.in_ok-place.ensures in
-    seal_cause c.args.self.now.table.bytes.now c.args.object c.args.start c.in_ok-place.place.item p.0 p.1.1 ∙ cond-true _ _ _ (not_from_false _ (ne_eqb _ _ c.if-place-start.true))
+    seal_cause c.args.self.now.table.bytes.now c.args.object c.args.start c.in_ok-place.place.item p.0 p.1.item ∙ cond-true _ _ _ (not_from_false _ (ne_eqb _ _ c.if-place-start.true))
 
 pub returns : goal.returns
 returns c =
     let p = c.in_ok-place.ensures in
-    (seal_cause c.args.self.now.table.bytes.now c.args.object c.args.start c.in_ok-place.place.item p.0 p.1.1 ∙ cond-false _ _ _ (not_from_true _ (eq-eqb _ _ c.if-place-start.false)), p.1)
+    (seal_cause c.args.self.now.table.bytes.now c.args.object c.args.start c.in_ok-place.place.item p.0 p.1.item ∙ cond-false _ _ _ (not_from_true _ (eq-eqb _ _ c.if-place-start.false)), p.1)

@@ -1,7 +1,0 @@
-use Rattle.std.proofs.Common.{arith}
-use Rattle.layout.specs.Field.{num}
-use Rattle.layout.proofs.field.get_u64.Goals as goal
-
-pub returns : goal.returns
-unfolding num
-returns c = omega arith
