@@ -1,29 +1,16 @@
 -- Each call's result as an answer.
-use Rattle.std.specs.Prelude.{ℕ, Ok, Err, Option, Result}
-use Rattle.ledger.specs.declared.record.Standing.{Standing}
-use Rattle.ledger.specs.declared.refusal.Refusal.{Refusal}
+use Rattle.std.specs.Prelude.{Ok, Err, Result}
 use Rattle.ledger.specs.declared.call.Answer.{Answer}
-use Rattle.ledger.specs.declared.call.Answer.TheVariants.{Began, Value, Wait, Done, Settled, Stands, Refused}
-use Rattle.ledger.specs.declared.call.Reading.{Reading}
-use Rattle.ledger.specs.declared.call.Reading.TheVariants.{Value as ValueRead, Wait as WaitRead}
+use Rattle.ledger.specs.declared.call.Answer.TheVariants.{Wait, Refused}
+use Rattle.ledger.specs.declared.call.Unread.{Unread}
+use Rattle.ledger.specs.declared.call.Unread.TheVariants.{Wait as WaitRead, Refused as RefusedRead}
 
-abbrev pub begun : {V : Type 0} → Result (ℕ × ℕ) Refusal → Answer V
-begun (Ok t) = Began t
-begun (Err why) = Refused why
+-- what `good` makes of what a call gave, or `bad` of why it gave nothing
+abbrev pub told : {A E V : Type 0} → (E → Answer V) → (A → Answer V) → Result A E → Answer V
+told bad good (Ok a) = good a
+told bad good (Err why) = bad why
 
-abbrev pub done : {V : Type 0} → Result (Unit {0}) Refusal → Answer V
-done (Ok u) = Done
-done (Err why) = Refused why
-
-abbrev pub stood : {V : Type 0} → Result (Option Standing × ℕ) Refusal → Answer V
-stood (Ok p) = Stands p.0 p.1
-stood (Err why) = Refused why
-
-abbrev pub given : {V : Type 0} → Result (Reading V) Refusal → Answer V
-given (Ok (ValueRead v)) = Value v
-given (Ok (WaitRead r)) = Wait r
-given (Err why) = Refused why
-
-abbrev pub tallied : {V : Type 0} → Result (ℕ × ℕ) Refusal → Answer V
-tallied (Ok p) = Settled p
-tallied (Err why) = Refused why
+-- why a read or a glance gave nothing
+abbrev pub unread : {V : Type 0} → Unread → Answer V
+unread (WaitRead r) = Wait r
+unread (RefusedRead why) = Refused why

@@ -3,7 +3,6 @@ use Rattle.std.specs.Prelude.{ℕ, cond, not, ◌||◌, List, Some, None, Option
 use Rattle.ledger.specs.declared.record.Standing.{Standing}
 use Rattle.ledger.specs.declared.record.Standing.TheVariants.{Open, Committed, Aborted}
 use Rattle.ledger.specs.declared.record.CommitRecord.{CommitRecord}
-use Rattle.ledger.specs.declared.record.CommitRecord.TheVariants.{Unused, Used}
 use Rattle.ledger.specs.declared.refusal.Refusal.{Refusal}
 use Rattle.ledger.specs.declared.refusal.Refusal.TheVariants.{NoRecord, OutOfRange, RecordInUse, StaleTicket, Committed as CommittedR, Aborted as AbortedR, ClockSpent, TickBack}
 use Rattle.ledger.specs.Time.{stamp, site_of, pseudo, is_spent, spent_at}
@@ -31,23 +30,23 @@ standing_check Open = None
 standing_check Committed = Some CommittedR
 standing_check Aborted = Some AbortedR
 
-abbrev pub use_check : List ℕ → ℕ → CommitRecord → Option Refusal
-use_check clocks creation Unused = Some StaleTicket
-use_check clocks creation (Used u) = cond (u.creation == creation) (standing_check (standing_of clocks u)) (Some StaleTicket)
+abbrev pub use_check : List ℕ → ℕ → Option CommitRecord → Option Refusal
+use_check clocks creation None = Some StaleTicket
+use_check clocks creation (Some u) = cond (u.creation == creation) (standing_check (standing_of clocks u)) (Some StaleTicket)
 
 -- a record from 1 to 64, its ticket, and an open action
-abbrev pub ticket_check : List CommitRecord → List ℕ → Ticket → Option Refusal
+abbrev pub ticket_check : List (Option CommitRecord) → List ℕ → Ticket → Option Refusal
 ticket_check records clocks t = first (record_check t.0) (use_check clocks t.1 (record_at records t.0))
 
 -- an open action whose site's clock is not spent
-abbrev pub action_check : List CommitRecord → List ℕ → Ticket → Option Refusal
+abbrev pub action_check : List (Option CommitRecord) → List ℕ → Ticket → Option Refusal
 action_check records clocks t = first (ticket_check records clocks t) (spent_check clocks (site_of t.1))
 
 -- a site from 0 to 15 whose clock is not spent
 abbrev pub glance_check : List ℕ → ℕ → Option Refusal
 glance_check clocks site = first (site_check site) (spent_check clocks site)
 
-abbrev pub begin_check : List CommitRecord → List ℕ → ℕ → ℕ → ℕ → Option Refusal
+abbrev pub begin_check : List (Option CommitRecord) → List ℕ → ℕ → ℕ → ℕ → Option Refusal
 begin_check records clocks r site lifetime =
     first (record_check r) (first (site_check site) (first (lifetime_check lifetime)
     (first (when (not (is_free clocks (record_at records r))) RecordInUse) (spent_check clocks site))))

@@ -4,3 +4,4 @@ pub mod Refusals
 pub mod Checks
 pub mod Ledger
 pub mod Answers
+pub mod Words

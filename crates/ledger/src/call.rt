@@ -1,10 +1,16 @@
+ghost use Rattle.std.specs.Prelude.{◌≡◌};
+ghost use Rattle.ledger.specs.Answers.{unread};
+ghost use Rattle.ledger.specs.Refusals.{refusal_of};
+ghost use Rattle.ledger.specs.declared.call.Unread.TheVariants.{Refused as RefusedRead};
+
 use crate::record::Standing;
 use crate::refusal::Refusal;
+use history::item::Fault;
 
 // A record's number and the creation timestamp of the action that has it.
 pub type Ticket = (u32, u32);
 
-#[derive(Clone, Copy)]
+#[derive(Clone, Copy, PartialEq, Eq, Debug)]
 pub enum Call<V> {
     Begin {
         record: u32,
@@ -42,7 +48,7 @@ pub enum Call<V> {
     },
 }
 
-#[derive(Clone, Copy)]
+#[derive(Clone, Copy, PartialEq, Eq, Debug)]
 pub enum Answer<V> {
     Began(Ticket),
     Value(V),
@@ -53,8 +59,36 @@ pub enum Answer<V> {
     Refused(Refusal),
 }
 
-// What a read or a glance gives: a value, or the open record to wait for.
-pub enum Reading<V> {
-    Value(V),
+// Why a read or a glance gives no value: the open record to wait for, or a refusal.
+#[derive(Clone, Copy, PartialEq, Eq, Debug)]
+pub enum Unread {
     Wait(u32),
+    Refused(Refusal),
+}
+
+impl From<Refusal> for Unread {
+    ghost from_gives = { λ why got. got ≡ RefusedRead why };
+
+    fn from(why: Refusal) -> Unread {
+        Unread::Refused(why)
+    }
+}
+
+impl From<Fault> for Unread {
+    ghost from_gives = { λ fault got. got ≡ RefusedRead (refusal_of fault) };
+
+    fn from(fault: Fault) -> Unread {
+        Unread::Refused(fault.into())
+    }
+}
+
+impl<V> From<Unread> for Answer<V> {
+    ghost from_gives = { λ why answer. answer ≡ unread why };
+
+    fn from(why: Unread) -> Answer<V> {
+        match why {
+            Unread::Wait(record) => Answer::Wait(record),
+            Unread::Refused(refusal) => Answer::Refused(refusal),
+        }
+    }
 }

@@ -2,9 +2,10 @@
 // and the ledger: the commit records with the sites' clocks.
 #![tactic(auto)]
 
-pub mod answer;
 pub mod call;
 pub mod ledger;
 pub mod limits;
+mod number;
 pub mod record;
 pub mod refusal;
+pub mod time;

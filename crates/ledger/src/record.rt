@@ -1,5 +1,6 @@
 ghost use Rattle.std.specs.Prelude.{◌≡◌};
 ghost use Rattle.ledger.specs.Records.{next};
+ghost use Rattle.ledger.specs.Words.{standing_word};
 
 #[derive(Clone, Copy, PartialEq, Eq, Debug)]
 pub enum Standing {
@@ -32,15 +33,21 @@ impl Standing {
 // What a commit record holds while an action has it: its creation timestamp, the clock at which it
 // expires, how many tokens are left to settle, and its standing.
 #[derive(Clone, Copy, PartialEq, Eq, Debug)]
-pub struct Use {
+pub struct CommitRecord {
     pub creation: u32,
     pub expiry: u32,
     pub tokens: u32,
     pub standing: Standing,
 }
 
-#[derive(Clone, Copy, PartialEq, Eq, Debug)]
-pub enum CommitRecord {
-    Unused,
-    Used(Use),
+// How a record stands, in a word.
+pub fn standing_word(standing: Option<Standing>) -> &'static str
+    ensures { result.now ≡ standing_word standing }
+{
+    match standing {
+        None => "unused",
+        Some(Standing::Open) => "open",
+        Some(Standing::Committed) => "committed",
+        Some(Standing::Aborted) => "aborted",
+    }
 }

@@ -4,7 +4,7 @@ ghost use Rattle.ledger.specs.Refusals.{refusal_number, refusal_of, aborts};
 use history::item::{Cause, Fault};
 
 // Why a call is turned down, in the order of checking.
-#[derive(Clone, Copy)]
+#[derive(Clone, Copy, PartialEq, Eq, Debug)]
 pub enum Refusal {
     // The register is not fit.
     NotFit,
@@ -82,9 +82,6 @@ impl Refusal {
     pub fn aborts(&self) -> bool
         ensures { result ≡ aborts self.now }
     {
-        match self {
-            Refusal::InsideSpan { .. } | Refusal::NoRoom(_) => true,
-            _ => false,
-        }
+        matches!(self, Refusal::InsideSpan { .. } | Refusal::NoRoom(_))
     }
 }

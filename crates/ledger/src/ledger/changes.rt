@@ -7,59 +7,49 @@ ghost use Rattle.ledger.specs.declared.record.Event.TheVariants.{Abort};
 
 use crate::call::Ticket;
 use crate::ledger::Ledger;
-use crate::limits::{PER_CREATION, RECORDS, SITES};
-use crate::record::{CommitRecord, Event, Standing, Use};
+use crate::limits::LONGEST;
+use crate::number::{RecordNumber, Site};
+use crate::record::{CommitRecord, Event, Standing};
 use crate::refusal::Refusal;
+use crate::time::starts_under;
 use history::item::Item;
 
 // What the calls change, each after its checks: a call that is turned down changes nothing.
 impl Ledger {
-    // Gives a record to a new action of a site, and says the action's creation.
-    fn open(&mut self, number: u32, site: u32, lifetime: u32) -> u32
-        requires range { (1 ≤ number) × ((number ≤ 64) × ((site < 16) × (lifetime ≤ 1048576))) }
-        requires unspent { clock_at self.old.clocks site < 134217728 }
-        ensures creation { result ≡ stamp (clock_at self.old.clocks site) site }
-        ensures records { self.new.records ≡ slice_set self.old.records (pred number) (opened (clock_at self.old.clocks site) site lifetime) }
-        ensures clocks { self.new.clocks ≡ take_stamp self.old.clocks site }
-    {
-        let clock = self.clock(site);
-        let creation = clock * SITES + site;
-        self.write(
-            number,
-            CommitRecord::Used(Use {
-                creation,
-                expiry: clock + lifetime,
-                tokens: 0,
-                standing: Standing::Open,
-            }),
-        );
-        self.set_clock(site, clock + 1);
-        creation
-    }
-
     // Opens a record for an action of a site.
     pub fn begin(&mut self, number: u32, site: u32, lifetime: u32) -> Result<Ticket, Refusal>
         ensures answer { result ≡ checked (begin_check self.old.records self.old.clocks number site lifetime) (number, stamp (clock_at self.old.clocks site) site) }
         ensures records { self.new.records ≡ left (begin_check self.old.records self.old.clocks number site lifetime) (slice_set self.old.records (pred number) (opened (clock_at self.old.clocks site) site lifetime)) self.old.records }
         ensures clocks { self.new.clocks ≡ left (begin_check self.old.records self.old.clocks number site lifetime) (take_stamp self.old.clocks site) self.old.clocks }
     {
-        self.check_begin(number, site, lifetime)?;
-        let creation = self.open(number, site, lifetime);
+        let record = RecordNumber::try_from(number)?;
+        let site = Site::try_from(site)?;
+        if !(2..=LONGEST).contains(&lifetime) {
+            return Err(Refusal::OutOfRange);
+        }
+        if !self.is_free(record) {
+            return Err(Refusal::RecordInUse);
+        }
+        let creation = self.stamp(site)?;
+        let opened = CommitRecord {
+            creation,
+            expiry: self.clock(site) + lifetime,
+            tokens: 0,
+            standing: Standing::Open,
+        };
+        self.write(record, Some(opened));
+        self.step_clock(site);
         Ok((number, creation))
     }
 
-    fn advance(&mut self, number: u32, event: Event)
-        requires { (1 ≤ number) × (number ≤ 64) }
+    fn advance(&mut self, number: RecordNumber, event: Event)
         ensures records { self.new.records ≡ change_record (concluded event) self.old.records number }
         ensures clocks { self.new.clocks ≡ self.old.clocks }
     {
-        let record = match self.record(number) {
-            CommitRecord::Unused => CommitRecord::Unused,
-            CommitRecord::Used(used) => CommitRecord::Used(Use {
-                standing: used.standing.after(event),
-                ..used
-            }),
-        };
+        let record = self.record(number).map(|record| CommitRecord {
+            standing: record.standing.after(event),
+            ..record
+        });
         self.write(number, record);
     }
 
@@ -69,8 +59,8 @@ impl Ledger {
         ensures records { self.new.records ≡ left (ticket_check self.old.records self.old.clocks ticket) (change_record (concluded event) self.old.records ticket.0) self.old.records }
         ensures clocks { self.new.clocks ≡ self.old.clocks }
     {
-        self.check_ticket(ticket)?;
-        self.advance(ticket.0, event);
+        let number = self.check_ticket(ticket)?;
+        self.advance(number, event);
         Ok(())
     }
 
@@ -90,7 +80,7 @@ impl Ledger {
         ensures records { self.new.records ≡ self.old.records }
         ensures clocks { self.new.clocks ≡ left (tick_check self.old.clocks site clock) (slice_set self.old.clocks site clock) self.old.clocks }
     {
-        self.check_tick(site, clock)?;
+        let site = self.check_tick(site, clock)?;
         self.set_clock(site, clock);
         Ok(())
     }
@@ -100,28 +90,9 @@ impl Ledger {
         ensures records { self.new.records ≡ self.old.records }
         ensures clocks { self.new.clocks ≡ left (glance_check self.old.clocks site) (take_stamp self.old.clocks site) self.old.clocks }
     {
-        if self.check_glance(site).is_ok() {
-            let clock = self.clock(site);
-            self.set_clock(site, clock + 1);
+        if let Ok(site) = self.check_glance(site) {
+            self.step_clock(site);
         }
-    }
-
-    fn count_token(&mut self, ticket: Ticket)
-        requires { action_check self.old.records self.old.clocks ticket ≡ None }
-        ensures records { self.new.records ≡ change_record one_token_more self.old.records ticket.0 }
-        ensures clocks { self.new.clocks ≡ take_stamp self.old.clocks (site_of ticket.1) }
-    {
-        let (number, creation) = ticket;
-        let record = match self.record(number) {
-            CommitRecord::Unused => CommitRecord::Unused,
-            CommitRecord::Used(used) => CommitRecord::Used(Use {
-                tokens: used.tokens + 1,
-                ..used
-            }),
-        };
-        let site = creation % SITES;
-        self.set_clock(site, self.clock(site) + 1);
-        self.write(number, record);
     }
 
     // Counts one more token of an open action, and takes a timestamp of its site.
@@ -129,8 +100,13 @@ impl Ledger {
         ensures records { self.new.records ≡ left (action_check self.old.records self.old.clocks ticket) (change_record one_token_more self.old.records ticket.0) self.old.records }
         ensures clocks { self.new.clocks ≡ left (action_check self.old.records self.old.clocks ticket) (take_stamp self.old.clocks (site_of ticket.1)) self.old.clocks }
     {
-        if self.check_action(ticket).is_ok() {
-            self.count_token(ticket);
+        if let Ok(number) = self.check_action(ticket) {
+            let record = self.record(number).map(|record| CommitRecord {
+                tokens: record.tokens + 1,
+                ..record
+            });
+            self.step_clock(Site::of(ticket.1));
+            self.write(number, record);
         }
     }
 
@@ -139,19 +115,15 @@ impl Ledger {
         ensures records { self.new.records ≡ left (record_check token.mark) (lower_for self.old.records token) self.old.records }
         ensures clocks { self.new.clocks ≡ self.old.clocks }
     {
-        let number = u32::from(token.mark);
-        if number == 0 || number > RECORDS {
-            return;
+        if let Ok(number) = RecordNumber::try_from(u32::from(token.mark)) {
+            let record = match self.record(number) {
+                Some(record) if starts_under(token, record.creation) => Some(CommitRecord {
+                    tokens: record.tokens.saturating_sub(1),
+                    ..record
+                }),
+                other => other,
+            };
+            self.write(number, record);
         }
-        let record = match self.record(number) {
-            CommitRecord::Used(used) if token.start / PER_CREATION == u64::from(used.creation) => {
-                CommitRecord::Used(Use {
-                    tokens: used.tokens.saturating_sub(1),
-                    ..used
-                })
-            }
-            other => other,
-        };
-        self.write(number, record);
     }
 }
