@@ -8,7 +8,6 @@ use Rattle.history.specs.Meaning.{cause_in}
 use Rattle.history.specs.Meaning.Op.{Extend, Put}
 use Rattle.ledger.specs.declared.record.Standing.{Standing}
 use Rattle.ledger.specs.declared.record.Standing.TheVariants.{Open, Aborted}
-use Rattle.ledger.specs.declared.record.CommitRecord.TheVariants.{Unused}
 use Rattle.ledger.specs.declared.refusal.Refusal.{Refusal}
 use Rattle.ledger.specs.Time.{stamp, pseudo}
 use Rattle.ledger.specs.Records.{opened}
@@ -77,7 +76,7 @@ Holds (StampAt site clock timestamp) = stamp clock site ≡ timestamp
 Holds (TimeOf creation selection time) = pseudo creation selection ≡ time
 Holds (StandsAt lifetime clock standing) = (state_of (replicate 16 clock) (opened 1 0 lifetime)).0 ≡ Some standing
 Holds (TickFrom clock to refusal) = number_in (tick_check (replicate 16 clock) 0 to) ≡ refusal
-Holds (BeginFor lifetime refusal) = number_in (begin_check (replicate 64 Unused) (replicate 16 1) 1 0 lifetime) ≡ refusal
+Holds (BeginFor lifetime refusal) = number_in (begin_check (replicate 64 None) (replicate 16 1) 1 0 lifetime) ≡ refusal
 
 abbrev pub edges : List Edge
 edges =

@@ -3,7 +3,6 @@
 
 ghost use Rattle.rows.specs.Tabled.{rows_means};
 ghost use Rattle.chained.specs.Means.{meaning};
-ghost use Rattle.encache.specs.Layer.{Whole};
 ghost use Rattle.kinds.specs.Forms.{seats_form, seats_parse, place_form, place_parse};
 ghost use Rattle.serial.specs.Reaches.{Continues};
 
@@ -18,7 +17,7 @@ use serial::perform;
 
 // Seats in a row store.
 pub fn perform_on_rows(register: &mut Register<Rows, Seats>, call: Call<Seats>) -> Answer<Seats>
-    ensures { Continues rows_means (λ _. Unit {0}) (λ s. seats_form s.value) seats_parse register.old call result register.new }
+    ensures { Continues rows_means (λ s. seats_form s.value) seats_parse register.old call result register.new }
 {
     perform(register, call)
 }
@@ -28,7 +27,7 @@ pub fn perform_on_bytes(
     register: &mut Register<Encache<Encache<Chained>>, Place>,
     call: Call<Place>,
 ) -> Answer<Place>
-    ensures { Continues (λ s. meaning s.below.below.table.bytes.now) (Whole (λ s. meaning s.below.table.bytes.now) (Whole (λ s. meaning s.table.bytes.now) (λ _. Unit {0}))) place_form place_parse register.old call result register.new }
+    ensures { Continues (λ s. meaning s.below.below.table.bytes.now) place_form place_parse register.old call result register.new }
 {
     perform(register, call)
 }

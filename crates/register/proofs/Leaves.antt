@@ -18,12 +18,12 @@ image_then writes bs o (op ∷ a) b = image_then writes (writes bs o op) o a b
 pub leaves_none : (s : State) (o : ℕ) → Leaves s o (chain_of s.store o) s.records [] s
 leaves_none s o = record { chains = sym (set-get_or s.store.chains o []); image = refl; writes = refl; records = refl; clocks = refl; fit = refl }
 
-pub leaves_contents : {s t : State} {o : ℕ} {c : List Item} {r : List CommitRecord} {ops : List Op} {clocks : List ℕ} → Leaves s o c r ops t → s.clocks ≡ clocks
+pub leaves_contents : {s t : State} {o : ℕ} {c : List Item} {r : List (Option CommitRecord)} {ops : List Op} {clocks : List ℕ} → Leaves s o c r ops t → s.clocks ≡ clocks
     → contents t ≡ record { chains = set s.store.chains o c; image = image_after s.store o ops; records = r; clocks = clocks }
 leaves_contents h e = let a = h.chains in let b = h.image in let c = h.records in let d = h.clocks in cc
 
 -- what a later operation on the object leaves, told from before the earlier ones
-module _ {s t : State} {o : ℕ} {c : List Item} {r : List CommitRecord} {ops : List Op} (h : Leaves s o c r ops t) where
+module _ {s t : State} {o : ℕ} {c : List Item} {r : List (Option CommitRecord)} {ops : List Op} (h : Leaves s o c r ops t) where
   pub rewritten : (d : List Item) → set t.store.chains o d ≡ set s.store.chains o d
   rewritten d = ap (λ w. set w o d) h.chains ∙ set-set s.store.chains o c d
 
@@ -32,7 +32,7 @@ module _ {s t : State} {o : ℕ} {c : List Item} {r : List CommitRecord} {ops : 
       ap (λ w. image_from w t.store.image o b) h.writes
       ∙ (ap (λ w. image_from s.store.writes w o b) h.image ∙ sym (image_then s.store.writes s.store.image o ops b))
 
-  pub leaves_then : {u : State} {d : List Item} {q : List CommitRecord} {b : List Op} → Leaves t o d q b u → Leaves s o d q (ops ++ b) u
+  pub leaves_then : {u : State} {d : List Item} {q : List (Option CommitRecord)} {b : List Op} → Leaves t o d q b u → Leaves s o d q (ops ++ b) u
   leaves_then {u} {d} {q} {b} k = record {
     chains = k.chains ∙ rewritten d;
     image = k.image ∙ reimaged b;
@@ -43,7 +43,7 @@ module _ {s t : State} {o : ℕ} {c : List Item} {r : List CommitRecord} {ops : 
   }
 
 -- the object's chain, and that it is there
-module _ {s t : State} {o : ℕ} {c : List Item} {r : List CommitRecord} {ops : List Op} (h : Leaves s o c r ops t) (inside : o < objects_of s.store) where
+module _ {s t : State} {o : ℕ} {c : List Item} {r : List (Option CommitRecord)} {ops : List Op} (h : Leaves s o c r ops t) (inside : o < objects_of s.store) where
   pub chain_left : chain_of t.store o ≡ c
   chain_left = ap (λ w. get_or w o []) h.chains ∙ get_or-set_same s.store.chains o c [] inside
 
@@ -51,7 +51,7 @@ module _ {s t : State} {o : ℕ} {c : List Item} {r : List CommitRecord} {ops : 
   inside_left = let k : length t.store.chains ≡ length s.store.chains = ap length h.chains ∙ length-set _ _ _ in omega arith
 
 -- an accepted operation
-pub leaves_one : (s t : State) (o : ℕ) (op : Op) (r : List CommitRecord) → cause_of s.store o op ≡ None → Outcome s.store o op t.store
+pub leaves_one : (s t : State) (o : ℕ) (op : Op) (r : List (Option CommitRecord)) → cause_of s.store o op ≡ None → Outcome s.store o op t.store
     → written s.store o op ≡ image_after s.store o (op ∷ []) → t.records ≡ r → t.clocks ≡ s.clocks → t.fit ≡ s.fit
     → Leaves s o (applied (chain_of s.store o) op) r (op ∷ []) t
 leaves_one s t o op r e h w records clocks fit = record {

@@ -1,5 +1,5 @@
 -- The search that settles tokens on its way.
-use Rattle.std.proofs.Common.{◌≡◌, ℕ, zero, suc, ◌<◌, ◌≤◌, Bool, true, false, cond, ◌||◌, List, [], ◌∷◌, ◌++◌, length, get_or, Some, None, Ok, Option, sym, refl, ap, ◌∙◌, subst, append_assoc, le_refl, arith}
+use Rattle.std.proofs.Common.{◌≡◌, ℕ, zero, suc, ◌<◌, ◌≤◌, Bool, true, false, cond, ◌||◌, List, [], ◌∷◌, ◌++◌, length, get_or, Some, None, Ok, Err, Option, Result, sym, refl, ap, ◌∙◌, subst, append_assoc, le_refl, arith}
 use Rattle.std.proofs.lemmas.Bool.{eq-eqb, or_parts, cond-false}
 use Rattle.history.specs.declared.item.Item.{Item}
 use Rattle.history.specs.Chain.{has_start, is_version, find_in, drop_in}
@@ -11,15 +11,15 @@ use Rattle.history.proofs.Outcomes.{find_accepted, find_leaves}
 use Rattle.ledger.specs.declared.record.Standing.{Standing}
 use Rattle.ledger.specs.declared.record.Standing.TheVariants.{Open, Committed, Aborted}
 use Rattle.ledger.specs.declared.record.CommitRecord.{CommitRecord}
-use Rattle.register.specs.declared.meet.Sight.{Sight}
-use Rattle.register.specs.declared.meet.Sight.TheVariants.{Reads, Waits}
+use Rattle.ledger.specs.declared.call.Unread.{Unread}
+use Rattle.ledger.specs.declared.call.Unread.TheVariants.{Wait}
 use Rattle.register.specs.State.{State}
 use Rattle.ledger.specs.Records.{fate, item_fate, lower_for}
 use Rattle.ledger.specs.Checks.{Ticket}
 use Rattle.register.specs.Calls.{Meeting, meeting, plainly, meet, meet_item, meet_fate, having_dropped, is_own}
 use Rattle.register.specs.Calls.Met.{reads}
 use Rattle.register.specs.Settling.{Held, Leaves, Settles}
-use Rattle.register.specs.Meets.{met_of, Extends, Meets}
+use Rattle.register.specs.Meets.{Shows, Extends, Meets}
 use Rattle.register.proofs.Leaves.{leaves_none, leaves_then, leaves_find, chain_left, inside_left}
 use Rattle.register.proofs.Chains.{Finds, finds, token_held, Seen, seen, seen_sealed, extendable}
 
@@ -28,11 +28,11 @@ drop_shorter xs p x e =
     let d = length_drop xs x.start (some_from (has_start x.start) x xs (found_in xs p x e) (eq-eqb x.start x.start refl)) in omega arith
 
 module _ (clocks : List ℕ) (own : Option Ticket) (p : ℕ) where
-  abbrev again : ℕ → List CommitRecord → List Item → Meeting
+  abbrev again : ℕ → List (Option CommitRecord) → List Item → Meeting
   again n later ys = meet n later clocks own ys p
 
   -- two searches that agree where an aborted token was dropped agree
-  item_agree : (f g : List CommitRecord → List Item → Meeting) (records : List CommitRecord) (xs : List Item) (k : Option Item)
+  item_agree : (f g : List (Option CommitRecord) → List Item → Meeting) (records : List (Option CommitRecord)) (xs : List Item) (k : Option Item)
       → ((x : Item) → k ≡ Some x → f (lower_for records x) (drop_in xs x.start) ≡ g (lower_for records x) (drop_in xs x.start))
       → meet_item f records clocks own xs k ≡ meet_item g records clocks own xs k
   item_agree f g records xs None h = refl
@@ -46,7 +46,7 @@ module _ (clocks : List ℕ) (own : Option Ticket) (p : ℕ) where
       go false Committed e = refl
       go false Aborted e = ap (having_dropped x) e
 
-  meet_fuel : (n m : ℕ) (records : List CommitRecord) (xs : List Item) → length xs ≤ n → length xs ≤ m → again n records xs ≡ again m records xs
+  meet_fuel : (n m : ℕ) (records : List (Option CommitRecord)) (xs : List Item) → length xs ≤ n → length xs ≤ m → again n records xs ≡ again m records xs
   meet_fuel zero zero records xs h k = refl
   meet_fuel zero (suc m) records [] h k = refl
   meet_fuel zero (suc m) records (x ∷ xs) h k = absurd (omega arith)
@@ -57,7 +57,7 @@ module _ (clocks : List ℕ) (own : Option Ticket) (p : ℕ) where
       (λ x e. let d = drop_shorter xs p x e in meet_fuel n m (lower_for records x) (drop_in xs x.start) (omega arith) (omega arith))
 
   -- a search's first step
-  meet_first : (records : List CommitRecord) (xs : List Item) (x : Item) → find_in xs p ≡ Some x
+  meet_first : (records : List (Option CommitRecord)) (xs : List Item) (x : Item) → find_in xs p ≡ Some x
       → again (length xs) records xs ≡ meet_item (λ later ys. again (length ys) later ys) records clocks own xs (Some x)
   meet_first records [] x e = let z : ◌≡◌ {A = ℕ} 0 1 = cc in absurd (omega arith)
   meet_first records (y ∷ ys) x e =
@@ -89,7 +89,7 @@ module _ (s : State) (own : Option Ticket) (o p : ℕ) (x : Item) (t : State) (l
   abbrev xs : List Item
   xs = chain_of t.store o
 
-  abbrev next : List CommitRecord → List Item → Meeting
+  abbrev next : List (Option CommitRecord) → List Item → Meeting
   next later ys = meet (length ys) later t.clocks own ys p
 
   abbrev plain : Bool
@@ -107,11 +107,11 @@ module _ (s : State) (own : Option Ticket) (o p : ℕ) (x : Item) (t : State) (l
       ∙ (ap (λ b. cond b (plainly t o x) (meet_fate next t.records xs x (fate t.records t.clocks x))) e
       ∙ ap (λ w. meet_fate next t.records xs x w) (sym (h ∙ cond-false (is_version x) _ _ (or_parts _ _ e).0)))
 
-  met_by : (m : Meeting) (r : Sight) (u : State) → meeting t own o p ≡ m → met_of r ≡ m.met → Leaves t o m.chain m.records m.ops u → Extends u.store o p r → Meets s own o p r u
+  met_by : (m : Meeting) (r : Result Item Unread) (u : State) → meeting t own o p ≡ m → Shows r m.met → Leaves t o m.chain m.records m.ops u → Extends u.store o p r → Meets s own o p r u
   met_by m r u e a h x =
       let q : meeting s own o p ≡ onward l.ops m = l.same ∙ ap (onward l.ops) e in
       record {
-        met = a ∙ sym (ap (λ w. w.met) q);
+        met = subst (λ (w : Meeting). Shows r w.met) (sym q) a;
         leaves = subst (λ (w : Meeting). Leaves s o w.chain w.records w.ops u) (sym q) (leaves_then l.leaves h);
         extends = x;
       }
@@ -122,16 +122,16 @@ module _ (s : State) (own : Option Ticket) (o p : ℕ) (x : Item) (t : State) (l
   pub looked_held : Sound t.store → plain ≡ false → Held t.store o x
   looked_held sound e = token_held t.store o x sound can.inside (found_in xs p x l.found) (or_parts _ _ e).0
 
-  pub looked_plain : Sound t.store → plain ≡ true → Meets s own o p (Reads x) t
+  pub looked_plain : Sound t.store → plain ≡ true → Meets s own o p (Ok x) t
   looked_plain sound e =
-      met_by _ (Reads x) t (met_plain e) refl (leaves_none t o) (extendable t.store o p x can.inside can.small (saw sound))
+      met_by _ (Ok x) t (met_plain e) refl (leaves_none t o) (extendable t.store o p x can.inside can.small (saw sound))
 
-  pub looked_open : (u : State) → plain ≡ false → Settles t o x Open u → Meets s own o p (Waits x.mark) u
-  looked_open u e h = met_by _ (Waits x.mark) u (met_token e Open h.fate_is) refl h.leaves tt
+  pub looked_open : (u : State) → plain ≡ false → Settles t o x Open u → Meets s own o p (Err (Wait x.mark)) u
+  looked_open u e h = met_by _ (Err (Wait x.mark)) u (met_token e Open h.fate_is) refl h.leaves tt
 
-  pub looked_committed : (u : State) → Sound t.store → plain ≡ false → Settles t o x Committed u → Meets s own o p (Reads x) u
+  pub looked_committed : (u : State) → Sound t.store → plain ≡ false → Settles t o x Committed u → Meets s own o p (Ok x) u
   looked_committed u sound e h =
-      met_by _ (Reads x) u (met_token e Committed h.fate_is) refl h.leaves
+      met_by _ (Ok x) u (met_token e Committed h.fate_is) refl h.leaves
       (extendable u.store o p x (inside_left h.leaves can.inside) can.small
       (subst (λ c. Seen c p x) (sym (chain_left h.leaves can.inside)) (seen_sealed xs p x.start x (saw sound))))
 

@@ -1,5 +1,5 @@
 -- The walk that settles an object's tokens.
-use Rattle.std.proofs.Common.{◌≡◌, ℕ, suc, ◌+◌, ◌<◌, ◌≤◌, false, not, List, [], ◌∷◌, ◌++◌, map, length, Some, None, Ok, Option, sym, refl, ap, ◌∙◌, subst, append_assoc, append-nil, add-zero, zero-add, arith, length-append}
+use Rattle.std.proofs.Common.{◌≡◌, ℕ, suc, ◌+◌, ◌-◌, ◌<◌, ◌≤◌, false, not, List, [], ◌∷◌, ◌++◌, map, length, Some, None, Ok, Option, sym, refl, ap, ◌∙◌, subst, append_assoc, append-nil, add-zero, zero-add, arith, length-append}
 use Rattle.std.proofs.lemmas.Bool.{eq-eqb, ne_eqb, leb-false, cond-true, cond-false, not_from_true, not_from_false}
 use Rattle.history.specs.declared.item.Item.{Item}
 use Rattle.history.specs.Chain.{nth_item, has_start, is_version, seals, seal_in, seal_item, drop_in}
@@ -129,17 +129,11 @@ walking_none s o sound e =
 pub at_answer : (m : Meaning) (o : ℕ) (v w : Option Item) → o < objects_of m → Ok w ≡ answered m o At v → v ≡ w
 at_answer m o v w h a = let c : answered m o At v ≡ Ok v = ap (answer_by m o At v) (cause_within m o At h) in cc
 
--- a walk's counts
-pub walked_most : (k : Walk) (f : Standing) (turn : ℕ) → k.place + k.dropped ≤ turn → k.sealed ≤ k.place
-    → ((walked k f).place + (walked k f).dropped ≤ turn + 1) × ((walked k f).sealed ≤ (walked k f).place)
-walked_most k Open turn h l = (omega arith, omega arith)
-walked_most k Committed turn h l = (omega arith, omega arith)
-walked_most k Aborted turn h l = (omega arith, omega arith)
-
-pub walked_sum : (k : Walk) (f : Standing) (turn : ℕ) → k.place + k.dropped ≡ turn → (walked k f).place + (walked k f).dropped ≡ turn + 1
-walked_sum k Open turn h = omega arith
-walked_sum k Committed turn h = omega arith
-walked_sum k Aborted turn h = omega arith
+-- a walk seals no more than it passes
+pub sealed_passed : (k : Walk) (f : Standing) → k.sealed ≤ k.place → (walked k f).sealed ≤ (walked k f).place
+sealed_passed k Open l = omega arith
+sealed_passed k Committed l = omega arith
+sealed_passed k Aborted l = l
 
 module _ (s : State) (o : ℕ) (k : Walk) (t : State) (l : Walking s o k t) where
   met_here : nth_item (chain_of t.store o) k.place ≡ first_item l.rest
@@ -198,3 +192,12 @@ module _ (s : State) (o : ℕ) (k : Walk) (t : State) (l : Walking s o k t) wher
             ∙ (ap (λ w. settle_step x w (settle_chain t.clocks (settled_records w t.records x) later.0)) (sym h.fate_is)
             ∙ (ap (λ r. settle_step x f (settle_chain t.clocks r later.0)) (sym h.leaves.records)
             ∙ ap (λ c. settle_step x f (settle_chain c u.records later.0)) (sym h.leaves.clocks)))
+
+    -- fewer items are left
+    pub walk_shortens : (u : State) (f : Standing) → Sound t.store → Settles t o x f u → length (chain_of u.store o) - (walked k f).place < length (chain_of t.store o) - k.place
+    unfolding walking_on later
+    walk_shortens u f sound h =
+        let w = walking_on u f sound h in
+        let now : length (chain_of u.store o) ≡ (walked k f).place + length later.0 = ap length w.split ∙ length-append w.done w.rest ∙ ap (λ n. n + length later.0) w.place in
+        let was : length (chain_of t.store o) ≡ k.place + suc (length later.0) = ap length chain_is ∙ length-append l.done (x ∷ later.0) ∙ ap (λ n. n + suc (length later.0)) l.place in
+        omega (arith, now, was)

@@ -71,7 +71,7 @@ pub data Met : Type 0 where
 pub record Meeting : Type 0 where
   pub met : Met
   pub chain : List Item
-  pub records : List CommitRecord
+  pub records : List (Option CommitRecord)
   pub ops : List Op
 
 -- a search that has dropped a token first
@@ -82,19 +82,19 @@ abbrev pub is_own : Option Ticket → Item → Bool
 is_own None x = false
 is_own (Some t) x = x.mark == t.0 && creation_of x.start == t.1
 
-abbrev pub meet_fate : (List CommitRecord → List Item → Meeting) → List CommitRecord → List Item → Item → Standing → Meeting
+abbrev pub meet_fate : (List (Option CommitRecord) → List Item → Meeting) → List (Option CommitRecord) → List Item → Item → Standing → Meeting
 meet_fate again records xs x Open = record { met = waits x.mark; chain = xs; records = records; ops = [] }
 meet_fate again records xs x Committed = record { met = reads x; chain = seal_in xs x.start; records = lower_for records x; ops = Seal x.start ∷ [] }
 meet_fate again records xs x Aborted = having_dropped x (again (lower_for records x) (drop_in xs x.start))
 
-abbrev pub meet_item : (List CommitRecord → List Item → Meeting) → List CommitRecord → List ℕ → Option Ticket → List Item → Option Item → Meeting
+abbrev pub meet_item : (List (Option CommitRecord) → List Item → Meeting) → List (Option CommitRecord) → List ℕ → Option Ticket → List Item → Option Item → Meeting
 meet_item again records clocks own xs None = record { met = nothing; chain = xs; records = records; ops = [] }
 meet_item again records clocks own xs (Some x) =
     cond (is_version x || is_own own x)
     (record { met = reads x; chain = xs; records = records; ops = [] })
     (meet_fate again records xs x (fate records clocks x))
 
-abbrev pub meet : ℕ → List CommitRecord → List ℕ → Option Ticket → List Item → ℕ → Meeting
+abbrev pub meet : ℕ → List (Option CommitRecord) → List ℕ → Option Ticket → List Item → ℕ → Meeting
 meet zero records clocks own xs p = record { met = nothing; chain = xs; records = records; ops = [] }
 meet (suc n) records clocks own xs p =
     meet_item (λ later ys. meet n later clocks own ys p) records clocks own xs (find_in xs p)
@@ -131,6 +131,10 @@ module _ {V : Type 0} (parse : ℕ → Option V) where
   abbrev pub look_by : State → Option Ticket → ℕ → ℕ → ℕ → Option Cause → Outcome V
   look_by s own o p site (Some c) = refused s (refusal_of (fault_of s.store o (Find p) c))
   look_by s own o p site None = answer_met s o p site (meeting s own o p) (meeting s own o p).met
+
+  -- an item read as it stands, and extended to p
+  abbrev pub read_item : State → ℕ → ℕ → ℕ → Item → Outcome V
+  read_item s o p site x = answer_read s o p site (plainly s o x) x (parse x.number)
 
   abbrev pub look : State → Option Ticket → ℕ → ℕ → ℕ → Outcome V
   look s own o p site = look_by s own o p site (cause_of s.store o (Find p))
@@ -209,7 +213,7 @@ tick s site clock =
 
 pub record Settling : Type 0 where
   pub chain : List Item
-  pub records : List CommitRecord
+  pub records : List (Option CommitRecord)
   pub sealed : ℕ
   pub dropped : ℕ
   pub ops : List Op
@@ -220,7 +224,7 @@ settle_step x Open w = record { chain = x ∷ w.chain; records = w.records; seal
 settle_step x Committed w = record { chain = seal_item x ∷ w.chain; records = w.records; sealed = w.sealed + 1; dropped = w.dropped; ops = Seal x.start ∷ w.ops }
 settle_step x Aborted w = record { chain = w.chain; records = w.records; sealed = w.sealed; dropped = w.dropped + 1; ops = Drop x.start ∷ w.ops }
 
-abbrev pub settle_chain : List ℕ → List CommitRecord → List Item → Settling
+abbrev pub settle_chain : List ℕ → List (Option CommitRecord) → List Item → Settling
 settle_chain clocks records [] = record { chain = []; records = records; sealed = 0; dropped = 0; ops = [] }
 settle_chain clocks records (x ∷ xs) =
     settle_step x (item_fate records clocks x) (settle_chain clocks (settled_records (item_fate records clocks x) records x) xs)
@@ -266,8 +270,5 @@ module _ {V : Type 0} (form : V → ℕ) (parse : ℕ → Option V) where
   outcome s (StandingCall r) = standing s r
 
   -- one call, from a state to the next, with its answer; a store's rooms and levels are left open
-  pub record Step (s : State) (c : Call V) (a : Answer V) (t : State) : Type 0 where
-    pub answers : a ≡ (outcome s c).answer
-    pub leaves : contents t ≡ (outcome s c).after
-    pub keeps_fit : t.fit ≡ s.fit
-    pub keeps_writes : t.store.writes ≡ s.store.writes
+  abbrev pub Step : State → Call V → Answer V → State → Type 0
+  Step s c a t = Ends (outcome s c) s a t

@@ -1,6 +1,5 @@
 pub mod State
 pub mod Calls
-pub mod Kept
 pub mod View
 pub mod Settling
 pub mod Walk

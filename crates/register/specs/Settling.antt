@@ -1,5 +1,5 @@
 -- One token settled: a committed one is sealed, an aborted one is dropped, an open one stays.
-use Rattle.std.specs.Prelude.{◌≡◌, ℕ, List, [], ◌∷◌, None, slice_set}
+use Rattle.std.specs.Prelude.{◌≡◌, ℕ, List, [], ◌∷◌, None, slice_set, Option, Ok, Err, Result}
 use Rattle.history.specs.declared.item.Item.{Item}
 use Rattle.history.specs.Chain.{seal_in, drop_in}
 use Rattle.history.specs.Meaning.{Meaning, Op, chain_of, cause_of}
@@ -22,7 +22,7 @@ settled_chain Open xs x = xs
 settled_chain Committed xs x = seal_in xs x.start
 settled_chain Aborted xs x = drop_in xs x.start
 
-abbrev pub settled_records : Standing → List CommitRecord → Item → List CommitRecord
+abbrev pub settled_records : Standing → List (Option CommitRecord) → Item → List (Option CommitRecord)
 settled_records Open records x = records
 settled_records Committed records x = lower_for records x
 settled_records Aborted records x = lower_for records x
@@ -33,7 +33,7 @@ settled_ops Committed x = Seal x.start ∷ []
 settled_ops Aborted x = Drop x.start ∷ []
 
 -- operations on one object, from a state s to a state t: the object's chain and the records after them
-pub record Leaves (s : State) (o : ℕ) (chain : List Item) (rs : List CommitRecord) (ops : List Op) (t : State) : Type 0 where
+pub record Leaves (s : State) (o : ℕ) (chain : List Item) (rs : List (Option CommitRecord)) (ops : List Op) (t : State) : Type 0 where
   pub chains : t.store.chains ≡ slice_set s.store.chains o chain
   pub image : t.store.image ≡ image_after s.store o ops
   pub writes : t.store.writes ≡ s.store.writes
@@ -45,3 +45,8 @@ pub record Leaves (s : State) (o : ℕ) (chain : List Item) (rs : List CommitRec
 pub record Settles (s : State) (o : ℕ) (x : Item) (f : Standing) (t : State) : Type 0 where
   pub fate_is : f ≡ item_fate s.records s.clocks x
   pub leaves : Leaves s o (settled_chain f (chain_of s.store o) x) (settled_records f s.records x) (settled_ops f x) t
+
+-- an answer of which P holds, and no refusal
+abbrev pub Gives : {A E : Type 0} → (A → Type 0) → Result A E → Type 0
+Gives P (Ok a) = P a
+Gives P (Err e) = ⊥

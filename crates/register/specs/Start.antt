@@ -1,9 +1,8 @@
 -- Whether a register may start over a store: no token, and every item ends before the first clock.
-use Rattle.std.specs.Prelude.{ℕ, ◌/◌, Bool, true, ◌&&◌, List, [], ◌∷◌, replicate, nat_le, nat_lt}
+use Rattle.std.specs.Prelude.{ℕ, ◌/◌, Bool, true, ◌&&◌, List, [], ◌∷◌, replicate, nat_le, nat_lt, None}
 use Rattle.history.specs.declared.item.Item.{Item}
 use Rattle.history.specs.Chain.{is_version}
 use Rattle.history.specs.Meaning.{Meaning}
-use Rattle.ledger.specs.declared.record.CommitRecord.TheVariants.{Unused}
 use Rattle.register.specs.State.{State}
 
 abbrev pub fit_item : ℕ → Item → Bool
@@ -22,4 +21,4 @@ fit_start m clock = nat_le 1 clock && (nat_le clock 134217727 && fit_chains cloc
 
 -- the state that a register starts in
 abbrev pub started : Meaning → ℕ → State
-started m clock = record { fit = fit_start m clock; store = m; records = replicate 64 Unused; clocks = replicate 16 clock }
+started m clock = record { fit = fit_start m clock; store = m; records = replicate 64 None; clocks = replicate 16 clock }

@@ -1,5 +1,5 @@
 -- What a register holds.
-use Rattle.std.specs.Prelude.{ℕ, Bool, List, [], ◌∷◌}
+use Rattle.std.specs.Prelude.{ℕ, Bool, List, [], ◌∷◌, Option}
 use Rattle.history.specs.declared.item.Item.{Item}
 use Rattle.history.specs.Meaning.{Meaning, Op}
 use Rattle.ledger.specs.declared.record.CommitRecord.{CommitRecord}
@@ -7,14 +7,14 @@ use Rattle.ledger.specs.declared.record.CommitRecord.{CommitRecord}
 pub record State : Type 0 where
   pub fit : Bool
   pub store : Meaning
-  pub records : List CommitRecord
+  pub records : List (Option CommitRecord)
   pub clocks : List ℕ
 
 -- the part of a state that calls change, besides a store's rooms and levels
 pub record Contents : Type 0 where
   pub chains : List (List Item)
   pub image : List ℕ
-  pub records : List CommitRecord
+  pub records : List (Option CommitRecord)
   pub clocks : List ℕ
 
 abbrev pub contents : State → Contents

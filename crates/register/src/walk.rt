@@ -3,21 +3,20 @@ ghost use Rattle.register.specs.Walk.{walked};
 
 use ledger::record::Standing;
 
-// A store has fewer items of an object than this.
-pub const TURNS: u32 = 65_536;
-
 // How far a walk over an object's items came: the place of the next item, and how many were sealed and dropped.
 #[derive(Clone, Copy)]
-pub struct Walk {
-    pub place: u32,
-    pub sealed: u32,
-    pub dropped: u32,
+pub(crate) struct Walk {
+    pub(crate) place: u32,
+    pub(crate) sealed: u32,
+    pub(crate) dropped: u32,
 }
 
 impl Walk {
     // Past one more item: a dropped one leaves its place to the next.
-    pub fn past(self, fate: Standing) -> Walk
-        requires { (self.place < 65536) × ((self.sealed < 65536) × (self.dropped < 65536)) }
+    pub(crate) fn past(self, fate: Standing) -> Walk
+        requires place { self.place < 65536 }
+        requires sealed { self.sealed < 65536 }
+        requires dropped { self.dropped < 65536 }
         ensures { result ≡ walked self fate }
     {
         match fate {

@@ -1,10 +1,8 @@
 -- A new access: a read, or an update.
-use Rattle.std.proofs.Common.{◌≡◌, ℕ, suc, ◌+◌, ◌*◌, ◌<◌, ◌≤◌, ◌⊎◌, List, ◌∷◌, Some, sym, refl, ap, ◌∙◌, subst, inl, inr, arith}
+use Rattle.std.proofs.Common.{◌≡◌, ℕ, suc, ◌+◌, ◌*◌, ◌<◌, ◌≤◌, ◌⊎◌, List, ◌∷◌, Some, sym, refl, ap, ◌∙◌, subst, inl, inr, arith, Option}
 use Rattle.std.proofs.lemmas.Bool.{cases_eq, cases_lt}
 use Rattle.history.specs.declared.item.Item.{Item}
-use Rattle.ledger.specs.declared.record.Use.{Use}
 use Rattle.ledger.specs.declared.record.CommitRecord.{CommitRecord}
-use Rattle.ledger.specs.declared.record.CommitRecord.TheVariants.{Used}
 use Rattle.history.specs.Members.{◌∈◌, here, there}
 use Rattle.serial.specs.Histories.{Access, Effect, gave, took}
 use Rattle.history.proofs.Lists.{split_in}
@@ -92,15 +90,15 @@ module _ {V : Type 0} (σ : Setting V) where
       ];
     }
 
-  pub record Writing (w : World V) (b : Access V) (v : V) (chain' : ℕ → List Item) (rec' : ℕ → CommitRecord) : Type 0 where
+  pub record Writing (w : World V) (b : Access V) (v : V) (chain' : ℕ → List Item) (rec' : ℕ → Option CommitRecord) : Type 0 where
     pub place : ℕ
-    pub before : Use
-    pub after : Use
+    pub before : CommitRecord
+    pub after : CommitRecord
     pub item : Item
-    pub used : w.rec place ≡ Used before
+    pub used : w.rec place ≡ Some before
     pub stays : OpenAt w.clk before
     pub names : before.creation ≡ b.creation
-    pub uses : rec' place ≡ Used after
+    pub uses : rec' place ≡ Some after
     pub kept : Kept before after
     pub one_more : after.tokens ≡ before.tokens + 1
     pub others : (j : ℕ) → (j ≡ place → ⊥) → rec' j ≡ w.rec j
@@ -115,21 +113,21 @@ module _ {V : Type 0} (σ : Setting V) where
   module _ (w : World V) (inv : Inv σ w) (b : Access V) (v : V) (takes : b.effect ≡ took v) (clk' : ℕ → ℕ)
       (up : (site : ℕ) → site < 16 → w.clk site ≤ clk' site) (top : (site : ℕ) → site < 16 → clk' site ≤ 134217728)
       (timed : Timed c clk' b) (fall : (d : Access V) → d ∈ w.acc → d.creation ≡ b.creation → d.time < b.time)
-      (chain' : ℕ → List Item) (rec' : ℕ → CommitRecord) (wr : Writing w b v chain' rec') where
+      (chain' : ℕ → List Item) (rec' : ℕ → Option CommitRecord) (wr : Writing w b v chain' rec') where
     abbrev pub with_update : World V
     with_update = record { acc = b ∷ w.acc; done = w.done; chain = chain'; rec = rec'; clk = clk' }
 
-    same_use : (r : CommitRecord) (u v : Use) → r ≡ Used u → r ≡ Used v → u ≡ v
+    same_use : (r : Option CommitRecord) (u v : CommitRecord) → r ≡ Some u → r ≡ Some v → u ≡ v
     same_use r u v p q = cc
 
     update_kin : Kin w with_update
     update_kin = record {
       fore = λ j u e. elim (cases_eq j wr.place) [
-        | inl q ↦ (wr.after, subst (λ y. rec' y ≡ Used wr.after) (sym q) wr.uses, subst (λ y. Kept y wr.after) (same_use (w.rec j) wr.before u (subst (λ y. w.rec y ≡ Used wr.before) (sym q) wr.used) e) wr.kept)
+        | inl q ↦ (wr.after, subst (λ y. rec' y ≡ Some wr.after) (sym q) wr.uses, subst (λ y. Kept y wr.after) (same_use (w.rec j) wr.before u (subst (λ y. w.rec y ≡ Some wr.before) (sym q) wr.used) e) wr.kept)
         | inr ne ↦ (u, wr.others j ne ∙ e, record { creation = refl; expiry = refl; standing = refl })
       ];
       back = λ j u e. elim (cases_eq j wr.place) [
-        | inl q ↦ (wr.before, subst (λ y. w.rec y ≡ Used wr.before) (sym q) wr.used, subst (λ y. Kept wr.before y) (same_use (rec' j) wr.after u (subst (λ y. rec' y ≡ Used wr.after) (sym q) wr.uses) e) wr.kept)
+        | inl q ↦ (wr.before, subst (λ y. w.rec y ≡ Some wr.before) (sym q) wr.used, subst (λ y. Kept wr.before y) (same_use (rec' j) wr.after u (subst (λ y. rec' y ≡ Some wr.after) (sym q) wr.uses) e) wr.kept)
         | inr ne ↦ (u, sym (wr.others j ne) ∙ e, record { creation = refl; expiry = refl; standing = refl })
       ];
       up = up;
@@ -141,12 +139,12 @@ module _ {V : Type 0} (σ : Setting V) where
     update_shift : Shift c w with_update
     update_shift = kin_shift c w with_update update_kin
 
-    update_tally : (i : ℕ) (u : Use) → rec' i ≡ Used u → Tally σ with_update i u.tokens
+    update_tally : (i : ℕ) (u : CommitRecord) → rec' i ≡ Some u → Tally σ with_update i u.tokens
     update_tally i u e = elim (cases_eq i wr.place) [
       | inl q ↦
           (let t = inv.tally wr.place wr.before wr.used in
-          let eu : u ≡ wr.after = same_use (rec' i) u wr.after e (subst (λ y. rec' y ≡ Used wr.after) (sym q) wr.uses) in
-          let tk : u.tokens ≡ wr.before.tokens + 1 = ap (λ (y : Use). y.tokens) eu ∙ wr.one_more in
+          let eu : u ≡ wr.after = same_use (rec' i) u wr.after e (subst (λ y. rec' y ≡ Some wr.after) (sym q) wr.uses) in
+          let tk : u.tokens ≡ wr.before.tokens + 1 = ap (λ (y : CommitRecord). y.tokens) eu ∙ wr.one_more in
           record {
             places = (b.object, wr.item.start) ∷ t.places;
             few = omega (arith, t.few);

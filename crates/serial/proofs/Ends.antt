@@ -1,26 +1,24 @@
 -- An action begins, commits or aborts.
-use Rattle.std.proofs.Common.{◌≡◌, ℕ, suc, ◌*◌, ◌/◌, ◌%◌, ◌<◌, ◌≤◌, Bool, true, false, ◌⊎◌, [], sym, refl, ap, ◌∙◌, subst, inl, inr, arith}
+use Rattle.std.proofs.Common.{◌≡◌, ℕ, suc, ◌*◌, ◌/◌, ◌%◌, ◌<◌, ◌≤◌, Bool, true, false, ◌⊎◌, [], sym, refl, ap, ◌∙◌, subst, inl, inr, arith, Some, Option}
 use Rattle.std.proofs.lemmas.Bool.{cases_Bool, cases_eq, both_ways}
 use Rattle.history.specs.declared.item.Item.{Item}
 use Rattle.ledger.specs.declared.record.Standing.TheVariants.{Open}
-use Rattle.ledger.specs.declared.record.Use.{Use}
 use Rattle.ledger.specs.declared.record.CommitRecord.{CommitRecord}
-use Rattle.ledger.specs.declared.record.CommitRecord.TheVariants.{Used}
 use Rattle.history.specs.Members.{◌∈◌}
 use Rattle.serial.specs.Histories.{Access}
 use Rattle.serial.proofs.Invariant.{Setting, World, OpenAt, Alive, Lives, Given, Inv, Owner, Tally, is_committed}
 use Rattle.serial.proofs.Moves.{Shift, source_move, from_move, given_of, given_up, timed_up}
 
-pub same_use : (r : CommitRecord) (u v : Use) → r ≡ Used u → r ≡ Used v → u ≡ v
+pub same_use : (r : Option CommitRecord) (u v : CommitRecord) → r ≡ Some u → r ≡ Some v → u ≡ v
 same_use r u v p q = cc
 
 module _ {V : Type 0} (σ : Setting V) where
   open σ use {form, parse, c, n, initial, last}
 
-  pub record Beginning (w : World V) (rec' : ℕ → CommitRecord) (clk' : ℕ → ℕ) : Type 0 where
+  pub record Beginning (w : World V) (rec' : ℕ → Option CommitRecord) (clk' : ℕ → ℕ) : Type 0 where
     pub place : ℕ
-    pub its : Use
-    pub uses : rec' place ≡ Used its
+    pub its : CommitRecord
+    pub uses : rec' place ≡ Some its
     pub others : (j : ℕ) → (j ≡ place → ⊥) → rec' j ≡ w.rec j
     pub opens : its.standing ≡ Open
     pub from : c * 16 ≤ its.creation
@@ -30,7 +28,7 @@ module _ {V : Type 0} (σ : Setting V) where
     pub up : (site : ℕ) → site < 16 → w.clk site ≤ clk' site
     pub top : (site : ℕ) → site < 16 → clk' site ≤ 134217728
 
-  module _ (w : World V) (inv : Inv σ w) (rec' : ℕ → CommitRecord) (clk' : ℕ → ℕ) (bg : Beginning w rec' clk') where
+  module _ (w : World V) (inv : Inv σ w) (rec' : ℕ → Option CommitRecord) (clk' : ℕ → ℕ) (bg : Beginning w rec' clk') where
     abbrev pub with_begun : World V
     with_begun = record { acc = w.acc; done = w.done; chain = w.chain; rec = rec'; clk = clk' }
 
@@ -39,15 +37,15 @@ module _ {V : Type 0} (σ : Setting V) where
         let q : w.clk (bg.its.creation % 16) ≡ w.clk (cr % 16) = ap (λ (y : ℕ). w.clk (y % 16)) e in
         omega (arith, g.1, bg.fresh)
 
-    use_of : (j : ℕ) (u : Use) → rec' j ≡ Used u → ((j ≡ bg.place) × (u ≡ bg.its)) ⊎ ((j ≡ bg.place → ⊥) × (w.rec j ≡ Used u))
+    use_of : (j : ℕ) (u : CommitRecord) → rec' j ≡ Some u → ((j ≡ bg.place) × (u ≡ bg.its)) ⊎ ((j ≡ bg.place → ⊥) × (w.rec j ≡ Some u))
     use_of j u e = elim (cases_eq j bg.place) [
-      | inl q ↦ inl (q, same_use (rec' j) u bg.its e (subst (λ y. rec' y ≡ Used bg.its) (sym q) bg.uses))
+      | inl q ↦ inl (q, same_use (rec' j) u bg.its e (subst (λ y. rec' y ≡ Some bg.its) (sym q) bg.uses))
       | inr ne ↦ inr (ne, sym (bg.others j ne) ∙ e)
     ]
 
     begin_alive : (cr : ℕ) → Given c w.clk cr → Alive with_begun cr → Alive w cr
     begin_alive cr g a = elim (use_of a.0 a.1 a.2) [
-      | inl q ↦ absurd (not_given cr (ap (λ (y : Use). y.creation) (sym q.1) ∙ a.3) g)
+      | inl q ↦ absurd (not_given cr (ap (λ (y : CommitRecord). y.creation) (sym q.1) ∙ a.3) g)
       | inr q ↦ (let up = bg.up (a.1.creation % 16) (omega arith) in (a.0, a.1, q.1, a.3, (a.4.0, omega (arith, a.4.1))))
     ]
 
@@ -57,28 +55,28 @@ module _ {V : Type 0} (σ : Setting V) where
     begin_given : (cr : ℕ) → Given c w.clk cr → Given c clk' cr
     begin_given cr g = given_up c w.clk clk' cr (bg.up (cr % 16) (omega arith)) g
 
-    begin_one : (i j : ℕ) (u v : Use) → rec' i ≡ Used u → rec' j ≡ Used v → u.creation ≡ v.creation → i ≡ j
+    begin_one : (i j : ℕ) (u v : CommitRecord) → rec' i ≡ Some u → rec' j ≡ Some v → u.creation ≡ v.creation → i ≡ j
     begin_one i j u v e f s = elim (use_of i u e) [
       | inl p ↦ elim (use_of j v f) [
         | inl q ↦ p.0 ∙ sym q.0
-        | inr q ↦ absurd (not_given v.creation (ap (λ (y : Use). y.creation) (sym p.1) ∙ s) (inv.used_old j v q.1))
+        | inr q ↦ absurd (not_given v.creation (ap (λ (y : CommitRecord). y.creation) (sym p.1) ∙ s) (inv.used_old j v q.1))
       ]
       | inr p ↦ elim (use_of j v f) [
-        | inl q ↦ absurd (not_given u.creation (ap (λ (y : Use). y.creation) (sym q.1) ∙ sym s) (inv.used_old i u p.1))
+        | inl q ↦ absurd (not_given u.creation (ap (λ (y : CommitRecord). y.creation) (sym q.1) ∙ sym s) (inv.used_old i u p.1))
         | inr q ↦ inv.used_one i j u v p.1 q.1 s
       ]
     ]
 
-    begin_com : (i : ℕ) (u : Use) → rec' i ≡ Used u → w.done u.creation ≡ is_committed u.standing
+    begin_com : (i : ℕ) (u : CommitRecord) → rec' i ≡ Some u → w.done u.creation ≡ is_committed u.standing
     begin_com i u e = elim (use_of i u e) [
       | inl q ↦ elim (cases_Bool (w.done u.creation)) [
-        | inl t ↦ absurd (not_given u.creation (ap (λ (y : Use). y.creation) (sym q.1)) (inv.com_old u.creation t))
-        | inr f ↦ f ∙ ap is_committed (sym (ap (λ (y : Use). y.standing) q.1 ∙ bg.opens))
+        | inl t ↦ absurd (not_given u.creation (ap (λ (y : CommitRecord). y.creation) (sym q.1)) (inv.com_old u.creation t))
+        | inr f ↦ f ∙ ap is_committed (sym (ap (λ (y : CommitRecord). y.standing) q.1 ∙ bg.opens))
       ]
       | inr q ↦ inv.used_com i u q.1
     ]
 
-    begin_tally : (i : ℕ) (u : Use) → rec' i ≡ Used u → Tally σ with_begun i u.tokens
+    begin_tally : (i : ℕ) (u : CommitRecord) → rec' i ≡ Some u → Tally σ with_begun i u.tokens
     begin_tally i u e = elim (use_of i u e) [
       | inl q ↦ record { places = []; few = omega arith; all = λ o x ix m. absurd (bg.empty o x ix (m ∙ ap suc q.0)) }
       | inr q ↦ (let t = inv.tally i u q.1 in record { places = t.places; few = t.few; all = t.all })
@@ -92,7 +90,7 @@ module _ {V : Type 0} (σ : Setting V) where
       falls = inv.falls;
       com_old = λ cr e. begin_given cr (inv.com_old cr e);
       used_old = λ i u e. elim (use_of i u e) [
-        | inl q ↦ subst (λ (y : Use). Given c clk' y.creation) (sym q.1) (bg.from, bg.given)
+        | inl q ↦ subst (λ (y : CommitRecord). Given c clk' y.creation) (sym q.1) (bg.from, bg.given)
         | inr q ↦ begin_given u.creation (inv.used_old i u q.1)
       ];
       used_one = begin_one;
@@ -119,13 +117,13 @@ module _ {V : Type 0} (σ : Setting V) where
           (λ k. inl (record { item = k.item; inside = k.inside; starts = k.starts; reaches = k.reaches })) (λ d x id ed od l. inl id);
     }
 
-  pub record Ending (w : World V) (rec' : ℕ → CommitRecord) (done' : ℕ → Bool) : Type 0 where
+  pub record Ending (w : World V) (rec' : ℕ → Option CommitRecord) (done' : ℕ → Bool) : Type 0 where
     pub place : ℕ
-    pub before : Use
-    pub after : Use
-    pub used : w.rec place ≡ Used before
+    pub before : CommitRecord
+    pub after : CommitRecord
+    pub used : w.rec place ≡ Some before
     pub stays : OpenAt w.clk before
-    pub uses : rec' place ≡ Used after
+    pub uses : rec' place ≡ Some after
     pub same : after.creation ≡ before.creation
     pub tokens : after.tokens ≡ before.tokens
     pub closes : after.standing ≡ Open → ⊥
@@ -133,26 +131,26 @@ module _ {V : Type 0} (σ : Setting V) where
     pub done_at : done' before.creation ≡ is_committed after.standing
     pub done_other : (cr : ℕ) → (cr ≡ before.creation → ⊥) → done' cr ≡ w.done cr
 
-  module _ (w : World V) (inv : Inv σ w) (rec' : ℕ → CommitRecord) (done' : ℕ → Bool) (en : Ending w rec' done') where
+  module _ (w : World V) (inv : Inv σ w) (rec' : ℕ → Option CommitRecord) (done' : ℕ → Bool) (en : Ending w rec' done') where
     abbrev pub with_ended : World V
     with_ended = record { acc = w.acc; done = done'; chain = w.chain; rec = rec'; clk = w.clk }
 
-    end_use : (j : ℕ) (u : Use) → rec' j ≡ Used u → ((j ≡ en.place) × (u ≡ en.after)) ⊎ ((j ≡ en.place → ⊥) × (w.rec j ≡ Used u))
+    end_use : (j : ℕ) (u : CommitRecord) → rec' j ≡ Some u → ((j ≡ en.place) × (u ≡ en.after)) ⊎ ((j ≡ en.place → ⊥) × (w.rec j ≡ Some u))
     end_use j u e = elim (cases_eq j en.place) [
-      | inl q ↦ inl (q, same_use (rec' j) u en.after e (subst (λ y. rec' y ≡ Used en.after) (sym q) en.uses))
+      | inl q ↦ inl (q, same_use (rec' j) u en.after e (subst (λ y. rec' y ≡ Some en.after) (sym q) en.uses))
       | inr ne ↦ inr (ne, sym (en.others j ne) ∙ e)
     ]
 
     -- the record's action before
-    end_was : (j : ℕ) (u : Use) → rec' j ≡ Used u → (v : Use) × (w.rec j ≡ Used v) × (u.creation ≡ v.creation) × (u.tokens ≡ v.tokens)
+    end_was : (j : ℕ) (u : CommitRecord) → rec' j ≡ Some u → (v : CommitRecord) × (w.rec j ≡ Some v) × (u.creation ≡ v.creation) × (u.tokens ≡ v.tokens)
     end_was j u e = elim (end_use j u e) [
-      | inl q ↦ (en.before, subst (λ y. w.rec y ≡ Used en.before) (sym q.0) en.used, ap (λ (y : Use). y.creation) q.1 ∙ en.same, ap (λ (y : Use). y.tokens) q.1 ∙ en.tokens)
+      | inl q ↦ (en.before, subst (λ y. w.rec y ≡ Some en.before) (sym q.0) en.used, ap (λ (y : CommitRecord). y.creation) q.1 ∙ en.same, ap (λ (y : CommitRecord). y.tokens) q.1 ∙ en.tokens)
       | inr q ↦ (u, q.1, refl, refl)
     ]
 
     end_alive : (cr : ℕ) → Alive with_ended cr → Alive w cr
     end_alive cr a = elim (end_use a.0 a.1 a.2) [
-      | inl q ↦ absurd (en.closes (ap (λ (y : Use). y.standing) (sym q.1) ∙ a.4.0))
+      | inl q ↦ absurd (en.closes (ap (λ (y : CommitRecord). y.standing) (sym q.1) ∙ a.4.0))
       | inr q ↦ (a.0, a.1, q.1, a.3, a.4)
     ]
 
@@ -177,9 +175,9 @@ module _ {V : Type 0} (σ : Setting V) where
     end_shift : Shift c w with_ended
     end_shift = record { grows = end_grows; alive = λ cr g a. end_alive cr a; lives = λ cr g l. end_lives cr l; more = λ b i. i }
 
-    end_com : (i : ℕ) (u : Use) → rec' i ≡ Used u → done' u.creation ≡ is_committed u.standing
+    end_com : (i : ℕ) (u : CommitRecord) → rec' i ≡ Some u → done' u.creation ≡ is_committed u.standing
     end_com i u e = elim (end_use i u e) [
-      | inl q ↦ ap (λ (y : Use). done' y.creation) q.1 ∙ ap done' en.same ∙ en.done_at ∙ ap (λ (y : Use). is_committed y.standing) (sym q.1)
+      | inl q ↦ ap (λ (y : CommitRecord). done' y.creation) q.1 ∙ ap done' en.same ∙ en.done_at ∙ ap (λ (y : CommitRecord). is_committed y.standing) (sym q.1)
       | inr q ↦ en.done_other u.creation (λ s. q.0 (inv.used_one i en.place u en.before q.1 en.used s)) ∙ inv.used_com i u q.1
     ]
 
@@ -195,8 +193,8 @@ module _ {V : Type 0} (σ : Setting V) where
         place = ow.place;
         its = en.after;
         marked = ow.marked;
-        used = subst (λ y. rec' y ≡ Used en.after) (sym q) en.uses;
-        same = en.same ∙ ap (λ (y : Use). y.creation) (same_use (w.rec ow.place) en.before ow.its (subst (λ y. w.rec y ≡ Used en.before) (sym q) en.used) ow.used) ∙ ow.same;
+        used = subst (λ y. rec' y ≡ Some en.after) (sym q) en.uses;
+        same = en.same ∙ ap (λ (y : CommitRecord). y.creation) (same_use (w.rec ow.place) en.before ow.its (subst (λ y. w.rec y ≡ Some en.before) (sym q) en.used) ow.used) ∙ ow.same;
       }
       | inr ne ↦ record { place = ow.place; its = ow.its; marked = ow.marked; used = en.others ow.place ne ∙ ow.used; same = ow.same }
     ]

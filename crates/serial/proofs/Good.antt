@@ -5,9 +5,7 @@ use Rattle.std.proofs.lemmas.Bool.{cases_Bool, cases_eq, or_parts, cond-true, co
 use Rattle.ledger.specs.declared.record.Standing.{Standing}
 use Rattle.ledger.specs.declared.record.Standing.TheVariants.{Open, Committed, Aborted}
 use Rattle.ledger.specs.declared.record.Event.TheVariants.{Expiry}
-use Rattle.ledger.specs.declared.record.Use.{Use}
 use Rattle.ledger.specs.declared.record.CommitRecord.{CommitRecord}
-use Rattle.ledger.specs.declared.record.CommitRecord.TheVariants.{Unused, Used}
 use Rattle.ledger.specs.declared.refusal.Refusal.{Refusal}
 use Rattle.ledger.specs.declared.refusal.Refusal.TheVariants.{NoRecord}
 use Rattle.history.specs.declared.item.Item.{Item}
@@ -22,14 +20,14 @@ use Rattle.serial.proofs.Invariant.{Setting, World, OpenAt, Inv}
 -- what the order sees of a state's contents: not the bytes under the store
 pub record Seen : Type 0 where
   pub chains : List (List Item)
-  pub records : List CommitRecord
+  pub records : List (Option CommitRecord)
   pub clocks : List ℕ
 
 abbrev pub seen : Contents → Seen
 seen k = record { chains = k.chains; records = k.records; clocks = k.clocks }
 
 abbrev pub world_of : {V : Type 0} → List (Access V) → (ℕ → Bool) → Seen → World V
-world_of acc done k = record { acc = acc; done = done; chain = λ o. get_or k.chains o []; rec = λ i. get_or k.records i Unused; clk = λ j. get_or k.clocks j 0 }
+world_of acc done k = record { acc = acc; done = done; chain = λ o. get_or k.chains o []; rec = λ i. get_or k.records i None; clk = λ j. get_or k.clocks j 0 }
 
 module _ {V : Type 0} (σ : Setting V) where
   open σ use {form, parse, c, n, initial, last}
@@ -82,10 +80,10 @@ set_here l i j a d lt e = subst (λ y. get_or (set l i a) y d ≡ a) (sym e) (ge
 -- what an open ticket tells
 
 pub record Ticketed (s : State) (t : Ticket) : Type 0 where
-  pub its : Use
+  pub its : CommitRecord
   pub marked : t.0 ≡ suc (pred t.0)
   pub in_range : pred t.0 < 64
-  pub used : get_or s.records (pred t.0) Unused ≡ Used its
+  pub used : get_or s.records (pred t.0) None ≡ Some its
   pub same : its.creation ≡ t.1
   pub opens : OpenAt (λ j. get_or s.clocks j 0) its
 
@@ -104,7 +102,7 @@ pub cond_same : {A : Type 0} (b : Bool) (x : A) → cond b x x ≡ x
 cond_same true x = refl
 cond_same false x = refl
 
-pub standing_open : (clocks : List ℕ) (u : Use) → standing_of clocks u ≡ Open → OpenAt (λ j. get_or clocks j 0) u
+pub standing_open : (clocks : List ℕ) (u : CommitRecord) → standing_of clocks u ≡ Open → OpenAt (λ j. get_or clocks j 0) u
 standing_open clocks u e = go u.standing refl e
   where
     go : (w : Standing) → u.standing ≡ w → cond (leb u.expiry (clock_at clocks (u.creation % 16))) (next w Expiry) w ≡ Open → OpenAt (λ j. get_or clocks j 0) u
@@ -121,11 +119,11 @@ ticketed s t e =
     let r = or_parts (eqb t.0 0) (ltb 64 t.0) (when_none (eqb t.0 0 || ltb 64 t.0) NoRecord b.0) in
     let nz = eqb-false t.0 0 r.0 in
     let le = ltb-false 64 t.0 r.1 in
-    go (get_or s.records (pred t.0) Unused) refl (omega arith) (omega arith) b.1
+    go (get_or s.records (pred t.0) None) refl (omega arith) (omega arith) b.1
   where
-    go : (q : CommitRecord) → get_or s.records (pred t.0) Unused ≡ q → t.0 ≡ suc (pred t.0) → pred t.0 < 64 → use_check s.clocks t.1 q ≡ None → Ticketed s t
-    go Unused p m l k = absurd (some_none _ k)
-    go (Used u) p m l k = elim (cases_Bool (eqb u.creation t.1)) [
+    go : (q : Option CommitRecord) → get_or s.records (pred t.0) None ≡ q → t.0 ≡ suc (pred t.0) → pred t.0 < 64 → use_check s.clocks t.1 q ≡ None → Ticketed s t
+    go None p m l k = absurd (some_none _ k)
+    go (Some u) p m l k = elim (cases_Bool (eqb u.creation t.1)) [
       | inl b ↦ record {
         its = u;
         marked = m;

@@ -3,9 +3,7 @@ use Rattle.std.proofs.Common.{◌≡◌, ℕ, suc, ◌+◌, ◌*◌, ◌/◌, �
 use Rattle.history.specs.declared.item.Item.{Item}
 use Rattle.ledger.specs.declared.record.Standing.{Standing}
 use Rattle.ledger.specs.declared.record.Standing.TheVariants.{Open, Committed, Aborted}
-use Rattle.ledger.specs.declared.record.Use.{Use}
 use Rattle.ledger.specs.declared.record.CommitRecord.{CommitRecord}
-use Rattle.ledger.specs.declared.record.CommitRecord.TheVariants.{Used}
 use Rattle.history.specs.Members.{◌∈◌}
 use Rattle.serial.specs.Histories.{Access, gave, took}
 
@@ -22,14 +20,14 @@ pub record World (V : Type 0) : Type 0 where
   pub acc : List (Access V)
   pub done : ℕ → Bool
   pub chain : ℕ → List Item
-  pub rec : ℕ → CommitRecord
+  pub rec : ℕ → Option CommitRecord
   pub clk : ℕ → ℕ
 
-abbrev pub OpenAt : (ℕ → ℕ) → Use → Type 0
+abbrev pub OpenAt : (ℕ → ℕ) → CommitRecord → Type 0
 OpenAt κ u = (u.standing ≡ Open) × (κ (u.creation % 16) < u.expiry)
 
 abbrev pub Alive : {V : Type 0} → World V → ℕ → Type 0
-Alive w cr = (i : ℕ) × (u : Use) × (w.rec i ≡ Used u) × (u.creation ≡ cr) × OpenAt w.clk u
+Alive w cr = (i : ℕ) × (u : CommitRecord) × (w.rec i ≡ Some u) × (u.creation ≡ cr) × OpenAt w.clk u
 
 abbrev pub Lives : {V : Type 0} → World V → ℕ → Type 0
 Lives w cr = (w.done cr ≡ true) ⊎ Alive w cr
@@ -65,9 +63,9 @@ module _ {V : Type 0} (σ : Setting V) where
 
   pub record Owner (w : World V) (a : Access V) (x : Item) : Type 0 where
     pub place : ℕ
-    pub its : Use
+    pub its : CommitRecord
     pub marked : x.mark ≡ suc place
-    pub used : w.rec place ≡ Used its
+    pub used : w.rec place ≡ Some its
     pub same : its.creation ≡ a.creation
 
   pub record FromUpdate (w : World V) (o : ℕ) (x : Item) : Type 0 where
@@ -121,12 +119,12 @@ module _ {V : Type 0} (σ : Setting V) where
     pub timed : (a : Access V) → a ∈ w.acc → Timed c w.clk a
     pub falls : Falling w.acc
     pub com_old : (cr : ℕ) → w.done cr ≡ true → Given c w.clk cr
-    pub used_old : (i : ℕ) (u : Use) → w.rec i ≡ Used u → Given c w.clk u.creation
-    pub used_one : (i j : ℕ) (u v : Use) → w.rec i ≡ Used u → w.rec j ≡ Used v → u.creation ≡ v.creation → i ≡ j
-    pub used_com : (i : ℕ) (u : Use) → w.rec i ≡ Used u → w.done u.creation ≡ is_committed u.standing
+    pub used_old : (i : ℕ) (u : CommitRecord) → w.rec i ≡ Some u → Given c w.clk u.creation
+    pub used_one : (i j : ℕ) (u v : CommitRecord) → w.rec i ≡ Some u → w.rec j ≡ Some v → u.creation ≡ v.creation → i ≡ j
+    pub used_com : (i : ℕ) (u : CommitRecord) → w.rec i ≡ Some u → w.done u.creation ≡ is_committed u.standing
     pub items : (o : ℕ) (x : Item) → x ∈ w.chain o → FromStart o x ⊎ FromUpdate w o x
     pub kept : (a : Access V) (v : V) → a ∈ w.acc → a.effect ≡ took v → Lives w a.creation → Held w a.object a.time (form v)
     pub kept_first : (o : ℕ) → o < n → Held w o (last o) (initial o)
     pub last_early : (o : ℕ) → o < n → last o < c * 68719476736
-    pub tally : (i : ℕ) (u : Use) → w.rec i ≡ Used u → Tally w i u.tokens
+    pub tally : (i : ℕ) (u : CommitRecord) → w.rec i ≡ Some u → Tally w i u.tokens
     pub reads : (a : Access V) (v : V) → a ∈ w.acc → a.effect ≡ gave v → Source w a v

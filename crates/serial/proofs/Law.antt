@@ -1,5 +1,5 @@
 -- The invariant gives the law.
-use Rattle.std.proofs.Common.{◌≡◌, ℕ, ◌/◌, ◌%◌, ◌<◌, ◌≤◌, true, ◌⊎◌, List, ◌∷◌, ◌++◌, Some, sym, ap, ◌∙◌, subst, inl, inr, arith, eq-eqb, eqb-true}
+use Rattle.std.proofs.Common.{◌≡◌, ℕ, ◌/◌, ◌%◌, ◌<◌, ◌≤◌, true, ◌⊎◌, List, ◌∷◌, ◌++◌, Some, sym, ap, ◌∙◌, subst, inl, inr, arith, eq-eqb, eqb-true, Option}
 use Rattle.std.proofs.lemmas.Bool.{cases_eq, or_left, or_right, or_cases}
 use Rattle.history.specs.declared.item.Item.{Item}
 use Rattle.ledger.specs.declared.record.CommitRecord.{CommitRecord}
@@ -13,10 +13,10 @@ use Rattle.history.proofs.Lists.{in_right}
 use Rattle.serial.proofs.Table.{falling_right, in_older, run_none, run_last, table_none, table_last, Writes, Settled}
 use Rattle.serial.proofs.Invariant.{Setting, World, Falling, Inv, Source, Held}
 
-abbrev pub world : {V : Type 0} → ℕ → History V → (ℕ → List Item) → (ℕ → CommitRecord) → (ℕ → ℕ) → World V
+abbrev pub world : {V : Type 0} → ℕ → History V → (ℕ → List Item) → (ℕ → Option CommitRecord) → (ℕ → ℕ) → World V
 world c h chain rec clk = record { acc = accesses c h; done = has_committed h; chain = chain; rec = rec; clk = clk }
 
-module _ {V : Type 0} (σ : Setting V) (h : History V) (chain : ℕ → List Item) (rec : ℕ → CommitRecord) (clk : ℕ → ℕ) (inv : Inv σ (world σ.c h chain rec clk)) where
+module _ {V : Type 0} (σ : Setting V) (h : History V) (chain : ℕ → List Item) (rec : ℕ → Option CommitRecord) (clk : ℕ → ℕ) (inv : Inv σ (world σ.c h chain rec clk)) where
   open σ use {form, parse, c, n, initial, last}
 
   count_apart : (a b : Access V) (v u : V) (s : Source σ (world c h chain rec clk) a v) → Counts form parse c initial h a b u → b.time ≤ s.at

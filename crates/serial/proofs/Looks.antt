@@ -5,7 +5,6 @@ use Rattle.std.proofs.lemmas.Bool.{cases_Bool, cases_eq, cases_lt, both_ways, an
 use Rattle.history.specs.declared.item.Item.{Item}
 use Rattle.ledger.specs.declared.record.Standing.TheVariants.{Committed, Aborted}
 use Rattle.ledger.specs.declared.record.CommitRecord.{CommitRecord}
-use Rattle.ledger.specs.declared.record.CommitRecord.TheVariants.{Unused}
 use Rattle.ledger.specs.declared.refusal.Refusal.{Refusal}
 use Rattle.ledger.specs.declared.refusal.Refusal.TheVariants.{NotFit, OutOfRange, ClockSpent, NoForm}
 use Rattle.ledger.specs.declared.call.Answer.{Answer}
@@ -41,7 +40,7 @@ module _ {V : Type 0} (σ : Setting V) where
   module _ (τ : Spot V) where
     open τ use {clock, acc, done, chains, clocks, o, lo}
 
-    seal_tidied : (xs : List Item) (rs : List CommitRecord) (x : Item) → fate rs clocks x ≡ Committed → Tidied σ τ xs (seal_in xs x.start) rs x
+    seal_tidied : (xs : List Item) (rs : List (Option CommitRecord)) (x : Item) → fate rs clocks x ≡ Committed → Tidied σ τ xs (seal_in xs x.start) rs x
     seal_tidied xs rs x e = record {
       back = λ y' i. (let r = of_map (λ y. cond (has_start x.start y) (seal_item y) y) xs y' i in
           let y = r.0 in
@@ -58,7 +57,7 @@ module _ {V : Type 0} (σ : Setting V) where
           (in_map (λ y. cond (has_start x.start y) (seal_item y) y) xs y i));
     }
 
-    drop_tidied : (xs : List Item) (rs : List CommitRecord) (x : Item) → fate rs clocks x ≡ Aborted → Tidied σ τ xs (drop_in xs x.start) rs x
+    drop_tidied : (xs : List Item) (rs : List (Option CommitRecord)) (x : Item) → fate rs clocks x ≡ Aborted → Tidied σ τ xs (drop_in xs x.start) rs x
     drop_tidied xs rs x e = record {
       back = λ y i. (let r = of_keep (λ z. not (has_start x.start z)) y xs i in (y, r.0, refl, refl, inl (refl, eqb-false y.start x.start (not-true (has_start x.start y) r.1))));
       fore = λ y i. elim (cases_Bool (has_start x.start y)) [
@@ -70,7 +69,7 @@ module _ {V : Type 0} (σ : Setting V) where
     -- the reader: its action or glance, and its time
     module _ (own : Option Ticket) (cr p : ℕ) (own_is : (x : Item) → is_own own x ≡ true → x.start / 4294967296 ≡ cr) where
       -- the reader's own updates still stand
-      abbrev Mine : List Item → List CommitRecord → Type 0
+      abbrev Mine : List Item → List (Option CommitRecord) → Type 0
       Mine xs rs = (d : Access V) → d ∈ acc → d.creation ≡ cr → Lives (now_world σ τ xs rs) d.creation
 
       pub record FoundAt (xs : List Item) (x : Item) : Type 0 where
@@ -109,7 +108,7 @@ module _ {V : Type 0} (σ : Setting V) where
       dropped_good : (x : Item) (m : Meeting) → MetGood m → MetGood (having_dropped x m)
       dropped_good x m g = record { now = g.now; mine = g.mine; meets = g.meets }
 
-      pub meet_good : (fuel : ℕ) (rs : List CommitRecord) (xs : List Item) → Sorted xs → Now σ τ xs rs → Mine xs rs → MetGood (meet fuel rs clocks own xs p)
+      pub meet_good : (fuel : ℕ) (rs : List (Option CommitRecord)) (xs : List Item) → Sorted xs → Now σ τ xs rs → Mine xs rs → MetGood (meet fuel rs clocks own xs p)
       meet_good zero rs xs s good mine = record { now = good; mine = mine; meets = tt }
       meet_good (suc fuel) rs xs s good mine = by_option (find_in xs p) (meet_item (λ later ys. meet fuel later clocks own ys p) rs clocks own xs) MetGood
           (λ _. record { now = good; mine = mine; meets = tt })
@@ -154,13 +153,13 @@ module _ {V : Type 0} (σ : Setting V) where
     longer_is st p y = cond_both (has_start st y) (raise p y) y (λ (z : Item). (z.start ≡ y.start) × (z.number ≡ y.number) × (z.mark ≡ y.mark) × (y.«end» ≤ z.«end»))
         (λ _. (refl, refl, refl, omega arith)) (λ _. (refl, refl, refl, omega arith))
 
-    extended : (xs : List Item) (rs : List CommitRecord) (st p : ℕ) → Now σ τ xs rs → Now σ τ (extend_in xs st p) rs
+    extended : (xs : List Item) (rs : List (Option CommitRecord)) (st p : ℕ) → Now σ τ xs rs → Now σ τ (extend_in xs st p) rs
     extended xs rs st p good = record {
       size_chains = length-set chains o (extend_in xs st p) ∙ sym (length-set chains o xs) ∙ good.size_chains;
       size_records = good.size_records;
       size_clocks = good.size_clocks;
       agree = good.agree;
-      inv = change σ (now_world σ τ xs rs) (λ k. get_or (set chains o (extend_in xs st p)) k []) (λ i. get_or rs i Unused) (λ j. get_or clocks j 0) good.inv (record {
+      inv = change σ (now_world σ τ xs rs) (λ k. get_or (set chains o (extend_in xs st p)) k []) (λ i. get_or rs i None) (λ j. get_or clocks j 0) good.inv (record {
         kin = record {
           fore = λ j u e. (u, e, record { creation = refl; expiry = refl; standing = refl });
           back = λ j u e. (u, e, record { creation = refl; expiry = refl; standing = refl });
@@ -201,7 +200,7 @@ module _ {V : Type 0} (σ : Setting V) where
         ]
 
     module _ (reads-back : (v : V) → parse (form v) ≡ Some v) (own : Option Ticket) (cr p : ℕ) (own_is : (x : Item) → is_own own x ≡ true → x.start / 4294967296 ≡ cr)
-        (xs : List Item) (rs : List CommitRecord) (good : Now σ τ xs rs)
+        (xs : List Item) (rs : List (Option CommitRecord)) (good : Now σ τ xs rs)
         (mine : (d : Access V) → d ∈ acc → d.creation ≡ cr → Lives (now_world σ τ xs rs) d.creation)
         (x : Item) (found : FoundAt own cr p own_is xs x) (v : V) (parses : parse x.number ≡ Some v)
         (tm : ℕ) (g : Bool) (tm-is : tm ≡ p) (from : c * 16 ≤ cr) (names : p / 4294967296 ≡ cr)
@@ -286,11 +285,11 @@ module _ {V : Type 0} (σ : Setting V) where
   module _ (reads-back : (v : V) → parse (form v) ≡ Some v) (clock : ℕ → ℕ) (acc : List (Access V)) (done : ℕ → Bool) (s : State) (sound : Sound s.store) (good : GoodAt σ clock acc done (seen (contents s))) where
     module _ (o : ℕ) (lo : o < length s.store.chains) (own : Option Ticket) (cr p site : ℕ) (own_is : (x : Item) → is_own own x ≡ true → x.start / 4294967296 ≡ cr) (P : Answer V → Seen → Type 0)
         (refuses : (why : Refusal) → P (Refused why) (seen (contents s)))
-        (waiting : (r : ℕ) (xs : List Item) (rs : List CommitRecord) → Now σ (spot clock acc done s o lo) xs rs
+        (waiting : (r : ℕ) (xs : List Item) (rs : List (Option CommitRecord)) → Now σ (spot clock acc done s o lo) xs rs
         → P (Wait r) (record { chains = set s.store.chains o xs; records = rs; clocks = s.clocks }))
-        (formless : (k : ℕ) (xs : List Item) (rs : List CommitRecord) → Now σ (spot clock acc done s o lo) xs rs
+        (formless : (k : ℕ) (xs : List Item) (rs : List (Option CommitRecord)) → Now σ (spot clock acc done s o lo) xs rs
         → P (Refused (NoForm k)) (record { chains = set s.store.chains o xs; records = rs; clocks = s.clocks }))
-        (valued : (xs : List Item) (rs : List CommitRecord) → Now σ (spot clock acc done s o lo) xs rs
+        (valued : (xs : List Item) (rs : List (Option CommitRecord)) → Now σ (spot clock acc done s o lo) xs rs
         → ((d : Access V) → d ∈ acc → d.creation ≡ cr → Lives (now_world σ (spot clock acc done s o lo) xs rs) d.creation)
         → (x : Item) → FoundAt (spot clock acc done s o lo) own cr p own_is xs x → (v : V) → parse x.number ≡ Some v
         → P (Value v) (record { chains = set s.store.chains o (extend_in xs x.start p); records = rs; clocks = take_stamp s.clocks site }))

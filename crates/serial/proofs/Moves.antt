@@ -1,22 +1,20 @@
 -- The invariant goes on through each kind of move.
-use Rattle.std.proofs.Common.{◌≡◌, ℕ, ◌*◌, ◌/◌, ◌%◌, ◌<◌, ◌≤◌, true, ◌⊎◌, List, sym, ap, ◌∙◌, subst, inl, inr, arith}
+use Rattle.std.proofs.Common.{◌≡◌, ℕ, ◌*◌, ◌/◌, ◌%◌, ◌<◌, ◌≤◌, true, ◌⊎◌, List, sym, ap, ◌∙◌, subst, inl, inr, arith, Some, Option}
 use Rattle.history.specs.declared.item.Item.{Item}
-use Rattle.ledger.specs.declared.record.Use.{Use}
 use Rattle.ledger.specs.declared.record.CommitRecord.{CommitRecord}
-use Rattle.ledger.specs.declared.record.CommitRecord.TheVariants.{Used}
 use Rattle.history.specs.Members.{◌∈◌}
 use Rattle.serial.specs.Histories.{Access, took}
 use Rattle.serial.proofs.Invariant.{Setting, World, Alive, Lives, Timed, Given, Inv, Source, Covering, Held, FromStart, FromUpdate, Owner, Tally, is_committed}
 
-pub record Kept (u v : Use) : Type 0 where
+pub record Kept (u v : CommitRecord) : Type 0 where
   pub creation : v.creation ≡ u.creation
   pub expiry : v.expiry ≡ u.expiry
   pub standing : v.standing ≡ u.standing
 
 -- records change in their tokens alone, clocks rise
 pub record Kin {V : Type 0} (w w' : World V) : Type 0 where
-  pub fore : (j : ℕ) (u : Use) → w.rec j ≡ Used u → (v : Use) × (w'.rec j ≡ Used v) × Kept u v
-  pub back : (j : ℕ) (v : Use) → w'.rec j ≡ Used v → (u : Use) × (w.rec j ≡ Used u) × Kept u v
+  pub fore : (j : ℕ) (u : CommitRecord) → w.rec j ≡ Some u → (v : CommitRecord) × (w'.rec j ≡ Some v) × Kept u v
+  pub back : (j : ℕ) (v : CommitRecord) → w'.rec j ≡ Some v → (u : CommitRecord) × (w.rec j ≡ Some u) × Kept u v
   pub up : (site : ℕ) → site < 16 → w.clk site ≤ w'.clk site
   pub top : (site : ℕ) → site < 16 → w'.clk site ≤ 134217728
   pub more : (b : Access V) → b ∈ w.acc → b ∈ w'.acc
@@ -95,13 +93,13 @@ module _ {V : Type 0} (σ : Setting V) where
   pub kin_com_old : (w w' : World V) → Inv σ w → Kin w w' → (cr : ℕ) → w'.done cr ≡ true → Given c w'.clk cr
   kin_com_old w w' inv k cr e = kin_given w w' k cr (inv.com_old cr (sym (k.same cr) ∙ e))
 
-  pub kin_used_old : (w w' : World V) → Inv σ w → Kin w w' → (i : ℕ) (u : Use) → w'.rec i ≡ Used u → Given c w'.clk u.creation
+  pub kin_used_old : (w w' : World V) → Inv σ w → Kin w w' → (i : ℕ) (u : CommitRecord) → w'.rec i ≡ Some u → Given c w'.clk u.creation
   kin_used_old w w' inv k i u e = let r = k.back i u e in kin_given w w' k u.creation (subst (λ y. Given c w.clk y) (sym r.2.creation) (inv.used_old i r.0 r.1))
 
-  pub kin_used_one : (w w' : World V) → Inv σ w → Kin w w' → (i j : ℕ) (u v : Use) → w'.rec i ≡ Used u → w'.rec j ≡ Used v → u.creation ≡ v.creation → i ≡ j
+  pub kin_used_one : (w w' : World V) → Inv σ w → Kin w w' → (i j : ℕ) (u v : CommitRecord) → w'.rec i ≡ Some u → w'.rec j ≡ Some v → u.creation ≡ v.creation → i ≡ j
   kin_used_one w w' inv k i j u v e f s = let r = k.back i u e in let q = k.back j v f in inv.used_one i j r.0 q.0 r.1 q.1 (sym r.2.creation ∙ s ∙ q.2.creation)
 
-  pub kin_used_com : (w w' : World V) → Inv σ w → Kin w w' → (i : ℕ) (u : Use) → w'.rec i ≡ Used u → w'.done u.creation ≡ is_committed u.standing
+  pub kin_used_com : (w w' : World V) → Inv σ w → Kin w w' → (i : ℕ) (u : CommitRecord) → w'.rec i ≡ Some u → w'.done u.creation ≡ is_committed u.standing
   kin_used_com w w' inv k i u e = let r = k.back i u e in
       k.same u.creation ∙ ap (λ (y : ℕ). w.done y) r.2.creation ∙ inv.used_com i r.0 r.1 ∙ ap is_committed (sym r.2.standing)
 
@@ -133,16 +131,16 @@ module _ {V : Type 0} (σ : Setting V) where
   }
 
   -- chains, tokens and clocks change, and no access is new
-  pub record Change (w : World V) (chain' : ℕ → List Item) (rec' : ℕ → CommitRecord) (clk' : ℕ → ℕ) : Type 0 where
+  pub record Change (w : World V) (chain' : ℕ → List Item) (rec' : ℕ → Option CommitRecord) (clk' : ℕ → ℕ) : Type 0 where
     pub kin : Kin w (record { acc = w.acc; done = w.done; chain = chain'; rec = rec'; clk = clk' })
     pub back : (o : ℕ) (x' : Item) → x' ∈ chain' o → (x : Item) × (x ∈ w.chain o) × (x'.start ≡ x.start) × (x'.number ≡ x.number)
         × ((x'.mark ≡ x.mark) ⊎ ((x'.mark ≡ 0) × (w.done (x.start / 4294967296) ≡ true)))
     pub fore : (o : ℕ) (x : Item) → x ∈ w.chain o →
         ((x' : Item) × (x' ∈ chain' o) × (x'.start ≡ x.start) × (x'.number ≡ x.number) × (x.«end» ≤ x'.«end»))
         ⊎ ((1 ≤ x.mark) × (Lives w (x.start / 4294967296) → ⊥))
-    pub tally : (i : ℕ) (u : Use) → rec' i ≡ Used u → Tally σ (record { acc = w.acc; done = w.done; chain = chain'; rec = rec'; clk = clk' }) i u.tokens
+    pub tally : (i : ℕ) (u : CommitRecord) → rec' i ≡ Some u → Tally σ (record { acc = w.acc; done = w.done; chain = chain'; rec = rec'; clk = clk' }) i u.tokens
 
-  module _ (w : World V) (chain' : ℕ → List Item) (rec' : ℕ → CommitRecord) (clk' : ℕ → ℕ) (inv : Inv σ w) (ch : Change w chain' rec' clk') where
+  module _ (w : World V) (chain' : ℕ → List Item) (rec' : ℕ → Option CommitRecord) (clk' : ℕ → ℕ) (inv : Inv σ w) (ch : Change w chain' rec' clk') where
     abbrev pub changed : World V
     changed = record { acc = w.acc; done = w.done; chain = chain'; rec = rec'; clk = clk' }
 

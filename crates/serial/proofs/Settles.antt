@@ -1,5 +1,5 @@
 -- Settle keeps the invariant
-use Rattle.std.proofs.Common.{◌≡◌, ℕ, ◌<◌, Bool, leb, List, [], ◌∷◌, ◌++◌, length, None, sym, refl, ap, subst, inl, inr, append_assoc, arith, leb-false}
+use Rattle.std.proofs.Common.{◌≡◌, ℕ, ◌<◌, Bool, leb, List, [], ◌∷◌, ◌++◌, length, None, sym, refl, ap, subst, inl, inr, append_assoc, arith, leb-false, Option}
 use Rattle.history.specs.declared.item.Item.{Item}
 use Rattle.ledger.specs.declared.record.Standing.TheVariants.{Open, Committed, Aborted}
 use Rattle.ledger.specs.declared.record.CommitRecord.{CommitRecord}
@@ -32,7 +32,7 @@ module _ {V : Type 0} (σ : Setting V) where
   module _ (τ : Spot V) where
     open τ use {clock, acc, done, chains, clocks, o, lo}
 
-    seal_mid : (pre xs : List Item) (rs : List CommitRecord) (x : Item) → Sorted (pre ++ (x ∷ xs)) → fate rs clocks x ≡ Committed
+    seal_mid : (pre xs : List Item) (rs : List (Option CommitRecord)) (x : Item) → Sorted (pre ++ (x ∷ xs)) → fate rs clocks x ≡ Committed
         → Tidied σ τ (pre ++ (x ∷ xs)) (pre ++ (seal_item x ∷ xs)) rs x
     seal_mid pre xs rs x s e = record {
       back = λ y i. elim (of_append pre (seal_item x ∷ xs) y i) [
@@ -51,7 +51,7 @@ module _ {V : Type 0} (σ : Setting V) where
       ];
     }
 
-    drop_mid : (pre xs : List Item) (rs : List CommitRecord) (x : Item) → Sorted (pre ++ (x ∷ xs)) → fate rs clocks x ≡ Aborted
+    drop_mid : (pre xs : List Item) (rs : List (Option CommitRecord)) (x : Item) → Sorted (pre ++ (x ∷ xs)) → fate rs clocks x ≡ Aborted
         → Tidied σ τ (pre ++ (x ∷ xs)) (pre ++ xs) rs x
     drop_mid pre xs rs x s e = record {
       back = λ y i. elim (of_append pre xs y i) [
@@ -70,7 +70,7 @@ module _ {V : Type 0} (σ : Setting V) where
     abbrev Whole : List Item → Settling → Type 0
     Whole pre w = Now σ τ (pre ++ w.chain) w.records
 
-    settle_keeps : (pre xs : List Item) (rs : List CommitRecord) → Sorted (pre ++ xs) → Now σ τ (pre ++ xs) rs → Whole pre (settle_chain clocks rs xs)
+    settle_keeps : (pre xs : List Item) (rs : List (Option CommitRecord)) → Sorted (pre ++ xs) → Now σ τ (pre ++ xs) rs → Whole pre (settle_chain clocks rs xs)
     settle_keeps pre [] rs s good = good
     settle_keeps pre (x ∷ xs) rs s good =
         let keep : Whole pre (settle_step x Open (settle_chain clocks rs xs)) =

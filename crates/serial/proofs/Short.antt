@@ -1,14 +1,12 @@
 -- Begin, commit, abort, tick and standing keep the invariant.
-use Rattle.std.proofs.Common.{◌≡◌, ℕ, suc, pred, ◌+◌, ◌*◌, ◌%◌, ◌<◌, ◌≤◌, Bool, true, false, cond, not, ◌||◌, eqb, ltb, leb, List, [], ◌∷◌, length, get_or, set, sym, refl, ap, ◌∙◌, inl, inr, arith, length-set, get_or-set_other, get_or-set_same, ltb-false, eq-eqb, ne_eqb, eqb-true, leb-false}
+use Rattle.std.proofs.Common.{◌≡◌, ℕ, suc, pred, ◌+◌, ◌*◌, ◌%◌, ◌<◌, ◌≤◌, Bool, true, false, cond, not, ◌||◌, eqb, ltb, leb, List, [], ◌∷◌, length, get_or, set, sym, refl, ap, ◌∙◌, inl, inr, arith, length-set, get_or-set_other, get_or-set_same, ltb-false, eq-eqb, ne_eqb, eqb-true, leb-false, Some, None, Option}
 use borrow.Author.Tests.{eqb-false}
 use Rattle.std.proofs.lemmas.Bool.{or_parts, or_left, and_parts, not-false}
 use Rattle.history.specs.declared.item.Item.{Item}
 use Rattle.ledger.specs.declared.record.Standing.TheVariants.{Open, Committed, Aborted}
 use Rattle.ledger.specs.declared.record.Event.{Event}
 use Rattle.ledger.specs.declared.record.Event.TheVariants.{Commit as CommitEvent, Abort as AbortEvent}
-use Rattle.ledger.specs.declared.record.Use.{Use}
 use Rattle.ledger.specs.declared.record.CommitRecord.{CommitRecord}
-use Rattle.ledger.specs.declared.record.CommitRecord.TheVariants.{Unused, Used}
 use Rattle.ledger.specs.declared.refusal.Refusal.TheVariants.{NoRecord, OutOfRange, RecordInUse, ClockSpent, TickBack}
 use Rattle.ledger.specs.declared.call.Call.TheVariants.{Begin, Commit, Abort, Tick, Standing as StandingCall}
 use Rattle.ledger.specs.Time.{is_spent, spent_at}
@@ -24,7 +22,7 @@ use Rattle.serial.proofs.Moves.{change}
 use Rattle.serial.proofs.Ends.{begins, ends}
 use Rattle.serial.proofs.Good.{seen, world_of, GoodAt, After, unless, first_none, when_none, set_here, Ticketed, ticketed, set_up, set_top, set_agree}
 
-unused_used : (u : Use) → Unused ≡ Used u → ⊥
+unused_used : (u : CommitRecord) → None ≡ Some u → ⊥
 unused_used u e = let z : ◌≡◌ {A = ℕ} 0 1 = cc in omega arith
 
 none_in : {A : Type 0} (x : A) (l : List A) → length l ≤ 0 → x ∈ l → ⊥
@@ -48,15 +46,15 @@ module _ {V : Type 0} (σ : Setting V) where
   pub free_empty : (w : World V) → Inv σ w → (clocks : List ℕ) (i : ℕ) → is_free clocks (w.rec i) ≡ true → (o : ℕ) (x : Item) → x ∈ w.chain o → x.mark ≡ suc i → ⊥
   free_empty w inv clocks i free o x ix m = go (w.rec i) refl free
     where
-      go : (r : CommitRecord) → w.rec i ≡ r → is_free clocks r ≡ true → ⊥
-      go Unused e f = elim (inv.items o x ix) [
+      go : (r : Option CommitRecord) → w.rec i ≡ r → is_free clocks r ≡ true → ⊥
+      go None e f = elim (inv.items o x ix) [
         | inl s ↦ omega (arith, s.version)
         | inr u ↦ elim u.standing [
           | inl p ↦ omega (arith, p.0)
           | inr ow ↦ (let q : ow.place ≡ i = omega (arith, ow.marked) in unused_used ow.its (sym e ∙ ap w.rec (sym q) ∙ ow.used))
         ]
       ]
-      go (Used u) e f =
+      go (Some u) e f =
           let t = inv.tally i u e in
           let z = eqb-true u.tokens 0 (and_parts _ (eqb u.tokens 0) f).1 in
           none_in (o, x.start) t.places (omega (arith, t.few)) (t.all o x ix m)
@@ -93,7 +91,7 @@ module _ {V : Type 0} (σ : Setting V) where
         })
     begin_put r site lifetime lt lr ls free unspent =
         let κ : ℕ = clock_at s.clocks site in
-        let its : Use = record { creation = κ * 16 + site; expiry = κ + lifetime; tokens = 0; standing = Open } in
+        let its : CommitRecord = record { creation = κ * 16 + site; expiry = κ + lifetime; tokens = 0; standing = Open } in
         let from = good.inv.clocks_from site ls in
         let at : (κ * 16 + site) % 16 ≡ site = omega arith in
         let up : (st : ℕ) → st < 16 → get_or s.clocks st 0 ≤ get_or (set s.clocks site (κ + 1)) st 0 = λ st h. set_up s.clocks site (κ + 1) lt (omega arith) st in
@@ -101,14 +99,14 @@ module _ {V : Type 0} (σ : Setting V) where
         let was : get_or s.clocks ((κ * 16 + site) % 16) 0 ≡ κ = ap (λ (y : ℕ). get_or s.clocks y 0) at in
         record {
           size_chains = good.size_chains;
-          size_records = length-set s.records (pred r) (Used its) ∙ good.size_records;
+          size_records = length-set s.records (pred r) (Some its) ∙ good.size_records;
           size_clocks = length-set s.clocks site (κ + 1) ∙ good.size_clocks;
           agree = λ st h. set_agree s.clocks site (κ + 1) st (clock st) (clock st + 1) lt (good.agree st h) (λ q. ap (λ (y : ℕ). y + 1) (ap (λ (y : ℕ). get_or s.clocks y 0) (sym q) ∙ good.agree st h));
-          inv = begins σ (world_of acc done (seen (contents s))) good.inv (λ i. get_or (set s.records (pred r) (Used its)) i Unused) (λ j. get_or (set s.clocks site (κ + 1)) j 0) (record {
+          inv = begins σ (world_of acc done (seen (contents s))) good.inv (λ i. get_or (set s.records (pred r) (Some its)) i None) (λ j. get_or (set s.clocks site (κ + 1)) j 0) (record {
             place = pred r;
             its = its;
-            uses = get_or-set_same s.records (pred r) (Used its) Unused lr;
-            others = λ j ne. get_or-set_other s.records (pred r) j (Used its) Unused ne;
+            uses = get_or-set_same s.records (pred r) (Some its) None lr;
+            others = λ j ne. get_or-set_other s.records (pred r) j (Some its) None ne;
             opens = refl;
             from = omega arith;
             fresh = omega (arith, was);
@@ -153,9 +151,9 @@ module _ {V : Type 0} (σ : Setting V) where
           clocks = s.clocks;
         })
     end_put e t done' closes tk at other =
-        let after : Use = record { creation = tk.its.creation; expiry = tk.its.expiry; tokens = tk.its.tokens; standing = next Open e } in
-        let r : CommitRecord = concluded e (record_at s.records t.0) in
-        let is : r ≡ Used after = ap (concluded e) tk.used ∙ ap (λ w. Used (record { creation = tk.its.creation; expiry = tk.its.expiry; tokens = tk.its.tokens; standing = next w e })) tk.opens.0 in
+        let after : CommitRecord = record { creation = tk.its.creation; expiry = tk.its.expiry; tokens = tk.its.tokens; standing = next Open e } in
+        let r : Option CommitRecord = concluded e (record_at s.records t.0) in
+        let is : r ≡ Some after = ap (concluded e) tk.used ∙ ap (λ w. Some (record { creation = tk.its.creation; expiry = tk.its.expiry; tokens = tk.its.tokens; standing = next w e })) tk.opens.0 in
         let szr = good.size_records in
         let lr : pred t.0 < length s.records = omega (arith, tk.in_range) in
         record {
@@ -163,17 +161,17 @@ module _ {V : Type 0} (σ : Setting V) where
           size_records = length-set s.records (pred t.0) r ∙ good.size_records;
           size_clocks = good.size_clocks;
           agree = good.agree;
-          inv = ends σ (world_of acc done (seen (contents s))) good.inv (λ i. get_or (set s.records (pred t.0) r) i Unused) done' (record {
+          inv = ends σ (world_of acc done (seen (contents s))) good.inv (λ i. get_or (set s.records (pred t.0) r) i None) done' (record {
             place = pred t.0;
             before = tk.its;
             after = after;
             used = tk.used;
             stays = tk.opens;
-            uses = get_or-set_same s.records (pred t.0) r Unused lr ∙ is;
+            uses = get_or-set_same s.records (pred t.0) r None lr ∙ is;
             same = refl;
             tokens = refl;
             closes = closes;
-            others = λ j ne. get_or-set_other s.records (pred t.0) j r Unused ne;
+            others = λ j ne. get_or-set_other s.records (pred t.0) j r None ne;
             done_at = ap done' tk.same ∙ at;
             done_other = λ cr ne. other cr (λ q. ne (q ∙ sym tk.same));
           });

@@ -2,8 +2,7 @@
 use Rattle.std.proofs.Common.{◌≡◌, ℕ, ◌<◌, true, false, ◌⊎◌, List, [], ◌∷◌, get_or, replicate, Some, None, Option, sym, refl, ap, ◌∙◌, subst, inl, inr, arith, eq-eqb}
 use Rattle.std.proofs.lemmas.Bool.{cases_Bool, cases_lt, both_ways}
 use Rattle.history.specs.declared.item.Item.{Item}
-use Rattle.ledger.specs.declared.record.Use.{Use}
-use Rattle.ledger.specs.declared.record.CommitRecord.TheVariants.{Unused, Used}
+use Rattle.ledger.specs.declared.record.CommitRecord.{CommitRecord}
 use Rattle.ledger.specs.declared.call.Call.{Call}
 use Rattle.ledger.specs.declared.call.Call.TheVariants.{Begin, Read, Update, Commit, Abort, Glance, Tick, Settle, Standing as StandingCall}
 use Rattle.register.specs.State.{State, Contents, contents}
@@ -34,7 +33,7 @@ last_at m o = last_start (last_item (chain_of m o))
 abbrev pub setting : {V : Type 0} → (V → ℕ) → (ℕ → Option V) → ℕ → Meaning → Setting V
 setting form parse c m = record { form = form; parse = parse; c = c; n = objects_of m; initial = found_at m; last = last_at m }
 
-unused_used : (u : Use) → Unused ≡ Used u → ⊥
+unused_used : (u : CommitRecord) → None ≡ Some u → ⊥
 unused_used u e = let z : ◌≡◌ {A = ℕ} 0 1 = cc in omega arith
 
 module _ {V : Type 0} (form : V → ℕ) (parse : ℕ → Option V) (c : ℕ) (m : Meaning) where
@@ -51,10 +50,10 @@ module _ {V : Type 0} (form : V → ℕ) (parse : ℕ → Option V) (c : ℕ) (m
     ap (λ (l : List Item). number_of (last_item l)) (keep_all is_version (chain_of m o) (λ x i. eq-eqb x.mark 0 (fit.no_token o lo x i))) ∙ ap number_of r.is,
   )
 
-  rec_unused : (i : ℕ) (u : Use) → get_or (replicate 64 Unused) i Unused ≡ Used u → ⊥
+  rec_unused : (i : ℕ) (u : CommitRecord) → get_or (replicate 64 None) i None ≡ Some u → ⊥
   rec_unused i u e = elim (cases_lt i 64) [
-    | inl lt ↦ unused_used u (sym (get_or-replicate 64 i Unused Unused lt) ∙ e)
-    | inr le ↦ unused_used u (sym (get_or-eq_default (replicate 64 Unused) Unused {n = i} le) ∙ e)
+    | inl lt ↦ unused_used u (sym (get_or-replicate 64 i None None lt) ∙ e)
+    | inr le ↦ unused_used u (sym (get_or-eq_default (replicate 64 None) None {n = i} le) ∙ e)
   ]
 
   inside : (o : ℕ) (x : Item) → x ∈ chain_of m o → o < objects_of m
@@ -69,7 +68,7 @@ module _ {V : Type 0} (form : V → ℕ) (parse : ℕ → Option V) (c : ℕ) (m
   start_good : Sound m → Fit c m → Good [] (seen (contents (started true c m)))
   start_good sound fit = record {
     size_chains = refl;
-    size_records = length-replicate 64 Unused;
+    size_records = length-replicate {A = Option CommitRecord} 64 None;
     size_clocks = length-replicate 16 c;
     agree = λ site lt. get_or-replicate 16 site c 0 lt;
     inv = record {
@@ -140,9 +139,9 @@ module _ {V : Type 0} (form : V → ℕ) (parse : ℕ → Option V) (c : ℕ) (m
 
   in_order : ((v : V) → parse (form v) ≡ Some v) → (h : History V) (s : State) → Sound s.store → Good h (seen (contents s)) → SerialOrder form parse c (found_at m) h s
   in_order reads-back h s sound good = record {
-    reads_latest = law.reads_latest (setting form parse c m) h (λ o. get_or s.store.chains o []) (λ i. get_or s.records i Unused) (λ j. get_or s.clocks j 0) good.inv;
-    runs_alike = law.runs_alike (setting form parse c m) h (λ o. get_or s.store.chains o []) (λ i. get_or s.records i Unused) (λ j. get_or s.clocks j 0) good.inv reads-back;
-    ends_alike = λ t big o lo. law.ends_alike (setting form parse c m) h (λ o. get_or s.store.chains o []) (λ i. get_or s.records i Unused) (λ j. get_or s.clocks j 0) good.inv
+    reads_latest = law.reads_latest (setting form parse c m) h (λ o. get_or s.store.chains o []) (λ i. get_or s.records i None) (λ j. get_or s.clocks j 0) good.inv;
+    runs_alike = law.runs_alike (setting form parse c m) h (λ o. get_or s.store.chains o []) (λ i. get_or s.records i None) (λ j. get_or s.clocks j 0) good.inv reads-back;
+    ends_alike = λ t big o lo. law.ends_alike (setting form parse c m) h (λ o. get_or s.store.chains o []) (λ i. get_or s.records i None) (λ j. get_or s.clocks j 0) good.inv
         o (subst (λ k. o < k) good.size_chains lo) (lawful_sorted (chain_of s.store o) (sound.lawful o lo)) t big;
   }
 

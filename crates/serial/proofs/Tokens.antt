@@ -1,14 +1,12 @@
 -- A token whose action has ended is sealed or dropped.
-use Rattle.std.proofs.Common.{◌≡◌, ℕ, suc, pred, ◌/◌, ◌%◌, ◌<◌, ◌≤◌, Bool, true, false, cond, ◌&&◌, eqb, leb, ◌⊎◌, List, [], ◌∷◌, length, get_or, set, sym, refl, ap, ◌∙◌, subst, inl, inr, arith, length-set, get_or-set_other, eq-eqb, eqb-true, leb-true}
+use Rattle.std.proofs.Common.{◌≡◌, ℕ, suc, pred, ◌/◌, ◌%◌, ◌<◌, ◌≤◌, Bool, true, false, cond, ◌&&◌, eqb, leb, ◌⊎◌, List, [], ◌∷◌, length, get_or, set, sym, refl, ap, ◌∙◌, subst, inl, inr, arith, length-set, get_or-set_other, eq-eqb, eqb-true, leb-true, Some, None, Option}
 use borrow.Author.Tests.{eqb-false}
 use Rattle.std.proofs.lemmas.Bool.{cases_Bool, cases_eq, cases_lt, both_ways, and_parts, and_from, cond-true, cond-false, cond_both}
 use Rattle.history.specs.declared.item.Item.{Item}
 use Rattle.ledger.specs.declared.record.Standing.{Standing}
 use Rattle.ledger.specs.declared.record.Standing.TheVariants.{Open, Committed, Aborted}
 use Rattle.ledger.specs.declared.record.Event.TheVariants.{Expiry}
-use Rattle.ledger.specs.declared.record.Use.{Use}
 use Rattle.ledger.specs.declared.record.CommitRecord.{CommitRecord}
-use Rattle.ledger.specs.declared.record.CommitRecord.TheVariants.{Unused, Used}
 use Rattle.serial.proofs.Invariant.{Setting, World, OpenAt, Lives, is_committed, Tally}
 use Rattle.serial.proofs.Moves.{Kept, change, token_late}
 use lib.ListN.{get_or-eq_default}
@@ -56,7 +54,7 @@ in_removed o st q (p ∷ ps) i ne = elim (split_in i) [
 
 -- standings
 
-standing_committed : (clocks : List ℕ) (u : Use) → standing_of clocks u ≡ Committed → u.standing ≡ Committed
+standing_committed : (clocks : List ℕ) (u : CommitRecord) → standing_of clocks u ≡ Committed → u.standing ≡ Committed
 standing_committed clocks u e = go u.standing refl e
   where
     go : (w : Standing) → u.standing ≡ w
@@ -68,7 +66,7 @@ standing_committed clocks u e = go u.standing refl e
     go Aborted p q = absurd (let f : Aborted ≡ Committed = sym (cond_same _ Aborted) ∙ q in let r : ◌≡◌ {A = ℕ} 0 1 = cc in omega arith)
 
 -- an aborted one is neither committed nor open
-standing_aborted : (clocks : List ℕ) (u : Use) → standing_of clocks u ≡ Aborted → (is_committed u.standing ≡ false) × (OpenAt (λ j. get_or clocks j 0) u → ⊥)
+standing_aborted : (clocks : List ℕ) (u : CommitRecord) → standing_of clocks u ≡ Aborted → (is_committed u.standing ≡ false) × (OpenAt (λ j. get_or clocks j 0) u → ⊥)
 standing_aborted clocks u e = go u.standing refl e
   where
     go : (w : Standing) → u.standing ≡ w
@@ -104,25 +102,25 @@ module _ {V : Type 0} (σ : Setting V) where
     open τ use {clock, acc, done, chains, clocks, o, lo}
 
     -- with one object's chain, and the records, as they stand so far
-    abbrev pub Now : List Item → List CommitRecord → Type 0
+    abbrev pub Now : List Item → List (Option CommitRecord) → Type 0
     Now xs rs = GoodAt σ clock acc done (record { chains = set chains o xs; records = rs; clocks = clocks })
 
-    abbrev pub now_world : List Item → List CommitRecord → World V
+    abbrev pub now_world : List Item → List (Option CommitRecord) → World V
     now_world xs rs = world_of acc done (record { chains = set chains o xs; records = rs; clocks = clocks })
 
     pub now_here : (xs : List Item) (k : ℕ) → k ≡ o → get_or (set chains o xs) k [] ≡ xs
     now_here xs k e = set_here chains o k xs [] lo e
 
-    pub now_in : (xs : List Item) (rs : List CommitRecord) (x : Item) → x ∈ xs → x ∈ get_or (set chains o xs) o []
+    pub now_in : (xs : List Item) (rs : List (Option CommitRecord)) (x : Item) → x ∈ xs → x ∈ get_or (set chains o xs) o []
     now_in xs rs x i = subst (λ l. x ∈ l) (sym (now_here xs o refl)) i
 
-    pub record Token (rs : List CommitRecord) (x : Item) : Type 0 where
-      pub its : Use
+    pub record Token (rs : List (Option CommitRecord)) (x : Item) : Type 0 where
+      pub its : CommitRecord
       pub marked : x.mark ≡ suc (pred x.mark)
-      pub used : get_or rs (pred x.mark) Unused ≡ Used its
+      pub used : get_or rs (pred x.mark) None ≡ Some its
       pub same : its.creation ≡ x.start / 4294967296
 
-    pub token_of : (xs : List Item) (rs : List CommitRecord) (x : Item) → Now xs rs → x ∈ xs → is_version x ≡ false → Token rs x
+    pub token_of : (xs : List Item) (rs : List (Option CommitRecord)) (x : Item) → Now xs rs → x ∈ xs → is_version x ≡ false → Token rs x
     token_of xs rs x good i nv =
         let nz = eqb-false x.mark 0 nv in
         elim (good.inv.items o x (now_in xs rs x i)) [
@@ -135,54 +133,54 @@ module _ {V : Type 0} (σ : Setting V) where
                 record {
                   its = ow.its;
                   marked = omega (arith, ow.marked);
-                  used = subst (λ y. get_or rs y Unused ≡ Used ow.its) pl ow.used;
+                  used = subst (λ y. get_or rs y None ≡ Some ow.its) pl ow.used;
                   same = omega (arith, ow.same, u.time);
                 })
           ]
         ]
 
-    pub token_fate : (rs : List CommitRecord) (x : Item) (tk : Token rs x) → fate rs clocks x ≡ standing_of clocks tk.its
+    pub token_fate : (rs : List (Option CommitRecord)) (x : Item) (tk : Token rs x) → fate rs clocks x ≡ standing_of clocks tk.its
     token_fate rs x tk = ap (λ r. fate_under clocks r x) tk.used ∙ cond-true (eqb (x.start / 4294967296) tk.its.creation) (standing_of clocks tk.its) Aborted (eq-eqb (x.start / 4294967296) tk.its.creation (sym tk.same))
 
-    token_lower : (rs : List CommitRecord) (x : Item) (tk : Token rs x) → lower_under (record_at rs x.mark) x ≡ lower tk.its
-    token_lower rs x tk = ap (λ r. lower_under r x) tk.used ∙ cond-true (eqb (x.start / 4294967296) tk.its.creation) (lower tk.its) (Used tk.its) (eq-eqb (x.start / 4294967296) tk.its.creation (sym tk.same))
+    token_lower : (rs : List (Option CommitRecord)) (x : Item) (tk : Token rs x) → lower_under (record_at rs x.mark) x ≡ lower tk.its
+    token_lower rs x tk = ap (λ r. lower_under r x) tk.used ∙ cond-true (eqb (x.start / 4294967296) tk.its.creation) (lower tk.its) (Some tk.its) (eq-eqb (x.start / 4294967296) tk.its.creation (sym tk.same))
 
-    used_inside : (rs : List CommitRecord) (i : ℕ) (u : Use) → get_or rs i Unused ≡ Used u → i < length rs
-    used_inside rs i u e = elim (cases_lt i (length rs)) [ inl lt ↦ lt | inr le ↦ absurd (let f : Unused ≡ Used u = sym (get_or-eq_default rs Unused le) ∙ e in let r : ◌≡◌ {A = ℕ} 0 1 = cc in omega arith) ]
+    used_inside : (rs : List (Option CommitRecord)) (i : ℕ) (u : CommitRecord) → get_or rs i None ≡ Some u → i < length rs
+    used_inside rs i u e = elim (cases_lt i (length rs)) [ inl lt ↦ lt | inr le ↦ absurd (let f : None ≡ Some u = sym (get_or-eq_default rs None le) ∙ e in let r : ◌≡◌ {A = ℕ} 0 1 = cc in omega arith) ]
 
-    token_dead : (xs : List Item) (rs : List CommitRecord) (x : Item) → Now xs rs → (tk : Token rs x) → fate rs clocks x ≡ Aborted → Lives (now_world xs rs) (x.start / 4294967296) → ⊥
+    token_dead : (xs : List Item) (rs : List (Option CommitRecord)) (x : Item) → Now xs rs → (tk : Token rs x) → fate rs clocks x ≡ Aborted → Lives (now_world xs rs) (x.start / 4294967296) → ⊥
     token_dead xs rs x good tk ab l =
         let sa = standing_aborted clocks tk.its (sym (token_fate rs x tk) ∙ ab) in
         elim l [
           | inl e ↦ both_ways (done (x.start / 4294967296)) (ap done (sym tk.same) ∙ good.inv.used_com (pred x.mark) tk.its tk.used ∙ sa.0) e
           | inr a ↦
               (let j : a.0 ≡ pred x.mark = good.inv.used_one a.0 (pred x.mark) a.1 tk.its a.2 tk.used (a.3 ∙ sym tk.same) in
-              let eq : a.1 ≡ tk.its = same_use (get_or rs a.0 Unused) a.1 tk.its a.2 (subst (λ y. get_or rs y Unused ≡ Used tk.its) (sym j) tk.used) in
+              let eq : a.1 ≡ tk.its = same_use (get_or rs a.0 None) a.1 tk.its a.2 (subst (λ y. get_or rs y None ≡ Some tk.its) (sym j) tk.used) in
               sa.1 (subst (λ u. OpenAt (λ j. get_or clocks j 0) u) eq a.4))
         ]
 
-    token_done : (xs : List Item) (rs : List CommitRecord) (x : Item) → Now xs rs → (tk : Token rs x) → fate rs clocks x ≡ Committed → done (x.start / 4294967296) ≡ true
+    token_done : (xs : List Item) (rs : List (Option CommitRecord)) (x : Item) → Now xs rs → (tk : Token rs x) → fate rs clocks x ≡ Committed → done (x.start / 4294967296) ≡ true
     token_done xs rs x good tk e =
         ap done (sym tk.same) ∙ good.inv.used_com (pred x.mark) tk.its tk.used ∙ ap is_committed (standing_committed clocks tk.its (sym (token_fate rs x tk) ∙ e))
 
-    pub record Tidied (xs xs' : List Item) (rs : List CommitRecord) (x : Item) : Type 0 where
+    pub record Tidied (xs xs' : List Item) (rs : List (Option CommitRecord)) (x : Item) : Type 0 where
       pub back : (y' : Item) → y' ∈ xs' → (y : Item) × (y ∈ xs) × (y'.start ≡ y.start) × (y'.number ≡ y.number)
           × (((y'.mark ≡ y.mark) × (y.start ≡ x.start → ⊥)) ⊎ ((y'.mark ≡ 0) × (y.start ≡ x.start) × (fate rs clocks x ≡ Committed)))
       pub fore : (y : Item) → y ∈ xs → ((y' : Item) × (y' ∈ xs') × (y'.start ≡ y.start) × (y'.number ≡ y.number) × (y.«end» ≤ y'.«end»)) ⊎ ((y.start ≡ x.start) × (fate rs clocks x ≡ Aborted))
 
-    module _ (xs xs' : List Item) (rs : List CommitRecord) (x : Item) (good : Now xs rs) (ix : x ∈ xs) (nv : is_version x ≡ false) (td : Tidied xs xs' rs x) where
+    module _ (xs xs' : List Item) (rs : List (Option CommitRecord)) (x : Item) (good : Now xs rs) (ix : x ∈ xs) (nv : is_version x ≡ false) (td : Tidied xs xs' rs x) where
       tok : Token rs x
       tok = token_of xs rs x good ix nv
 
-      low : Use
+      low : CommitRecord
       low = record { creation = tok.its.creation; expiry = tok.its.expiry; tokens = pred tok.its.tokens; standing = tok.its.standing }
 
-      low_here : (j : ℕ) → j ≡ pred x.mark → get_or (lower_for rs x) j Unused ≡ Used low
+      low_here : (j : ℕ) → j ≡ pred x.mark → get_or (lower_for rs x) j None ≡ Some low
       unfolding low
-      low_here j e = set_here rs (pred x.mark) j (lower_under (record_at rs x.mark) x) Unused (used_inside rs (pred x.mark) tok.its tok.used) e ∙ token_lower rs x tok
+      low_here j e = set_here rs (pred x.mark) j (lower_under (record_at rs x.mark) x) None (used_inside rs (pred x.mark) tok.its tok.used) e ∙ token_lower rs x tok
 
-      low_off : (j : ℕ) → (j ≡ pred x.mark → ⊥) → get_or (lower_for rs x) j Unused ≡ get_or rs j Unused
-      low_off j ne = get_or-set_other rs (pred x.mark) j (lower_under (record_at rs x.mark) x) Unused ne
+      low_off : (j : ℕ) → (j ≡ pred x.mark → ⊥) → get_or (lower_for rs x) j None ≡ get_or rs j None
+      low_off j ne = get_or-set_other rs (pred x.mark) j (lower_under (record_at rs x.mark) x) None ne
 
       chain_off : (k : ℕ) → (k ≡ o → ⊥) → get_or (set chains o xs') k [] ≡ get_or (set chains o xs) k []
       chain_off k ne = get_or-set_other chains o k xs' [] ne ∙ sym (get_or-set_other chains o k xs [] ne)
@@ -208,12 +206,12 @@ module _ {V : Type 0} (σ : Setting V) where
         | inr ne ↦ (y', subst (λ l. y' ∈ l) (chain_off k ne) i, refl, refl, inl (refl, λ e. absurd (ne e)))
       ]
 
-      tidy_tally : (i : ℕ) (u : Use) → get_or (lower_for rs x) i Unused ≡ Used u → Tally σ (now_world xs' (lower_for rs x)) i u.tokens
+      tidy_tally : (i : ℕ) (u : CommitRecord) → get_or (lower_for rs x) i None ≡ Some u → Tally σ (now_world xs' (lower_for rs x)) i u.tokens
       tidy_tally i u e = elim (cases_eq i (pred x.mark)) [
         | inl q ↦
             (let t = good.inv.tally (pred x.mark) tok.its tok.used in
-            let eu : u ≡ low = same_use (get_or (lower_for rs x) i Unused) u low e (low_here i q) in
-            let tk : u.tokens ≡ pred tok.its.tokens = ap (λ (y : Use). y.tokens) eu ∙ low_tokens in
+            let eu : u ≡ low = same_use (get_or (lower_for rs x) i None) u low e (low_here i q) in
+            let tk : u.tokens ≡ pred tok.its.tokens = ap (λ (y : CommitRecord). y.tokens) eu ∙ low_tokens in
             let less = removed_less o x.start t.places (t.all o x (now_in xs rs x ix) tok.marked) in
             record {
               places = removed o x.start t.places;
@@ -256,14 +254,14 @@ module _ {V : Type 0} (σ : Setting V) where
         size_records = length-set rs (pred x.mark) (lower_under (record_at rs x.mark) x) ∙ good.size_records;
         size_clocks = good.size_clocks;
         agree = good.agree;
-        inv = change σ (now_world xs rs) (λ k. get_or (set chains o xs') k []) (λ i. get_or (lower_for rs x) i Unused) (λ j. get_or clocks j 0) good.inv (record {
+        inv = change σ (now_world xs rs) (λ k. get_or (set chains o xs') k []) (λ i. get_or (lower_for rs x) i None) (λ j. get_or clocks j 0) good.inv (record {
           kin = record {
             fore = λ j u e. elim (cases_eq j (pred x.mark)) [
-              | inl q ↦ (low, low_here j q, subst (λ y. Kept y low) (same_use (get_or rs j Unused) tok.its u (subst (λ y. get_or rs y Unused ≡ Used tok.its) (sym q) tok.used) e) kept_low)
+              | inl q ↦ (low, low_here j q, subst (λ y. Kept y low) (same_use (get_or rs j None) tok.its u (subst (λ y. get_or rs y None ≡ Some tok.its) (sym q) tok.used) e) kept_low)
               | inr ne ↦ (u, low_off j ne ∙ e, record { creation = refl; expiry = refl; standing = refl })
             ];
             back = λ j u e. elim (cases_eq j (pred x.mark)) [
-              | inl q ↦ (tok.its, subst (λ y. get_or rs y Unused ≡ Used tok.its) (sym q) tok.used, subst (λ y. Kept tok.its y) (same_use (get_or (lower_for rs x) j Unused) low u (low_here j q) e) kept_low)
+              | inl q ↦ (tok.its, subst (λ y. get_or rs y None ≡ Some tok.its) (sym q) tok.used, subst (λ y. Kept tok.its y) (same_use (get_or (lower_for rs x) j None) low u (low_here j q) e) kept_low)
               | inr ne ↦ (u, sym (low_off j ne) ∙ e, record { creation = refl; expiry = refl; standing = refl })
             ];
             up = λ st h. omega arith;
@@ -298,9 +296,9 @@ module _ {V : Type 0} (σ : Setting V) where
       tidy_lives cr l = elim l [
         | inl e ↦ inl e
         | inr a ↦ elim (cases_eq a.0 (pred x.mark)) [
-          | inl q ↦ (let eq : tok.its ≡ a.1 = same_use (get_or rs a.0 Unused) tok.its a.1 (subst (λ y. get_or rs y Unused ≡ Used tok.its) (sym q) tok.used) a.2 in
+          | inl q ↦ (let eq : tok.its ≡ a.1 = same_use (get_or rs a.0 None) tok.its a.1 (subst (λ y. get_or rs y None ≡ Some tok.its) (sym q) tok.used) a.2 in
               let oa : OpenAt (λ j. get_or clocks j 0) tok.its = subst (λ u. OpenAt (λ j. get_or clocks j 0) u) (sym eq) a.4 in
-              inr (a.0, low, low_here a.0 q, kept_low.creation ∙ ap (λ (u : Use). u.creation) eq ∙ a.3, low_open oa))
+              inr (a.0, low, low_here a.0 q, kept_low.creation ∙ ap (λ (u : CommitRecord). u.creation) eq ∙ a.3, low_open oa))
           | inr ne ↦ inr (a.0, a.1, low_off a.0 ne ∙ a.2, a.3, a.4)
         ]
       ]

@@ -39,7 +39,7 @@ refused_deed (Settle o) why = refl
 refused_deed (Standing r) why = refl
 
 module _ {V : Type 0} (form : V → ℕ) (parse : ℕ → Option V) where
-  refuses_all : (store : Meaning) (records : List CommitRecord) (clocks : List ℕ) (k : Call V)
+  refuses_all : (store : Meaning) (records : List (Option CommitRecord)) (clocks : List ℕ) (k : Call V)
       → outcome form parse (record { fit = false; store = store; records = records; clocks = clocks }) k ≡ refused (record { fit = false; store = store; records = records; clocks = clocks }) NotFit
   refuses_all store records clocks (Begin r site lifetime) = refl
   refuses_all store records clocks (Read t o) = refl

@@ -3,9 +3,7 @@ use Rattle.std.proofs.Common.{◌≡◌, ℕ, pred, ◌+◌, ◌%◌, ◌<◌, �
 use Rattle.std.proofs.lemmas.Bool.{cases_eq, cond_both}
 use Rattle.history.specs.declared.item.Item.{Item}
 use Rattle.ledger.specs.declared.record.Event.TheVariants.{Abort as AbortEvent}
-use Rattle.ledger.specs.declared.record.Use.{Use}
 use Rattle.ledger.specs.declared.record.CommitRecord.{CommitRecord}
-use Rattle.ledger.specs.declared.record.CommitRecord.TheVariants.{Unused, Used}
 use Rattle.ledger.specs.declared.refusal.Refusal.TheVariants.{ClockSpent}
 use Rattle.ledger.specs.declared.call.Call.TheVariants.{Update}
 use Rattle.ledger.specs.Time.{stamp, is_spent, spent_at, pseudo, site_of}
@@ -85,9 +83,9 @@ module _ {V : Type 0} (σ : Setting V) where
         let b : Access V = record { object = o; creation = t.1; time = select t.1 (clock (t.1 % 16)); glance = false; effect = took v } in
         let tb : b.time ≡ p = time_is t in
         let xs : List Item = chain_of s.store o in
-        let r : CommitRecord = one_token_more (record_at s.records t.0) in
-        let after : Use = record { creation = tk.its.creation; expiry = tk.its.expiry; tokens = tk.its.tokens + 1; standing = tk.its.standing } in
-        let is : r ≡ Used after = ap one_token_more tk.used in
+        let r : Option CommitRecord = one_token_more (record_at s.records t.0) in
+        let after : CommitRecord = record { creation = tk.its.creation; expiry = tk.its.expiry; tokens = tk.its.tokens + 1; standing = tk.its.standing } in
+        let is : r ≡ Some after = ap one_token_more tk.used in
         let szr = good.size_records in
         let szc = good.size_clocks in
         let lr : pred t.0 < length s.records = omega (arith, tk.in_range) in
@@ -103,7 +101,7 @@ module _ {V : Type 0} (σ : Setting V) where
           inv = add_update σ (world_of acc done (seen (contents s))) good.inv b v refl (λ j. get_or (take_stamp s.clocks (t.1 % 16)) j 0)
               (stamp_up (t.1 % 16) lt) (stamp_top (t.1 % 16) lt unspent) (own_timed t tk unspent b refl tb)
               (λ d i e. subst (λ y. d.time < y) (sym tb) (own_fall t d i e))
-              chain' (λ i. get_or (set s.records (pred t.0) r) i Unused) (record {
+              chain' (λ i. get_or (set s.records (pred t.0) r) i None) (record {
                 place = pred t.0;
                 before = tk.its;
                 after = after;
@@ -111,10 +109,10 @@ module _ {V : Type 0} (σ : Setting V) where
                 used = tk.used;
                 stays = tk.opens;
                 names = tk.same;
-                uses = get_or-set_same s.records (pred t.0) r Unused lr ∙ is;
+                uses = get_or-set_same s.records (pred t.0) r None lr ∙ is;
                 kept = record { creation = refl; expiry = refl; standing = refl };
                 one_more = refl;
-                others = λ j ne. get_or-set_other s.records (pred t.0) j r Unused ne;
+                others = λ j ne. get_or-set_other s.records (pred t.0) j r None ne;
                 starts = sym tb;
                 marked = tk.marked;
                 number = refl;

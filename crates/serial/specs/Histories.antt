@@ -3,7 +3,6 @@ use Rattle.std.specs.Prelude.{◌≡◌, ℕ, ◌+◌, ◌<◌, ◌≤◌, Bool,
 use Rattle.history.specs.declared.item.Item.{Item}
 use Rattle.history.specs.Members.{◌∈◌}
 use Rattle.history.specs.Meaning.{Meaning, Sound, chain_of, objects_of}
-use Rattle.ledger.specs.declared.record.CommitRecord.TheVariants.{Unused}
 use Rattle.ledger.specs.declared.call.Call.{Call}
 use Rattle.ledger.specs.declared.call.Call.TheVariants.{Begin, Read, Update, Commit, Abort, Glance, Tick, Settle, Standing}
 use Rattle.ledger.specs.declared.call.Answer.{Answer}
@@ -161,7 +160,7 @@ pub record Fit (c : ℕ) (m : Meaning) : Type 0 where
 
 -- a register at first: its store, 64 records that nobody has, and 16 clocks at c
 abbrev pub started : Bool → ℕ → Meaning → State
-started fit c m = record { fit = fit; store = m; records = replicate 64 Unused; clocks = replicate 16 c }
+started fit c m = record { fit = fit; store = m; records = replicate 64 None; clocks = replicate 16 c }
 
 module _ {V : Type 0} (form : V → ℕ) (parse : ℕ → Option V) (c : ℕ) (m : Meaning) where
   -- The states that calls lead to, each with its history. A register may be fit at first only where what it asks holds;

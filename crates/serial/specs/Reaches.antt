@@ -4,17 +4,14 @@ use Rattle.history.specs.Meaning.{Meaning}
 use Rattle.register.specs.declared.register.Register.{Register}
 use Rattle.ledger.specs.declared.call.Call.{Call}
 use Rattle.ledger.specs.declared.call.Answer.{Answer}
-use Rattle.register.specs.Kept.{Kept}
 use Rattle.register.specs.View.{view}
 use Rattle.serial.specs.Histories.{History, Fit, Reached}
 use Rattle.serial.specs.SerialOrder.{SerialOrder, found_at}
 
-module _ {S V : Type 0} (means : S → Meaning) (whole : S → Type 0) (form : V → ℕ) (parse : ℕ → Option V) where
-  -- From a start at clock c over a store that meant m, the calls and answers of h led to the register,
-  -- whose store is whole and sound.
-  pub record Reaches (c : ℕ) (m : Meaning) (h : History V) (r : Register S V) : Type 0 where
-    pub kept : Kept means whole r.store
-    pub reached : Reached form parse c m h (view means r)
+module _ {S V : Type 0} (means : S → Meaning) (form : V → ℕ) (parse : ℕ → Option V) where
+  -- From a start at clock c over a store that meant m, the calls and answers of h led to the register.
+  abbrev pub Reaches : ℕ → Meaning → History V → Register S V → Type 0
+  Reaches c m h r = Reached form parse c m h (view means r)
 
   -- The register at first: it has no history, and is fit exactly where what it asks holds.
   pub record Opens (c : ℕ) (m : Meaning) (r : Register S V) : Type 0 where

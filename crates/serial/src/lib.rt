@@ -15,16 +15,16 @@ use register::register::Register;
 
 // Starts a register over a store, with every site's clock at `clock`.
 pub fn open<S: Store, V: Kind>(store: S, clock: u32) -> Register<S, V>
-    ensures starts { S.Store.whole store → view S.Store.means result ≡ started (S.Store.means store) clock }
-    ensures opens { S.Store.whole store → Opens S.Store.means S.Store.whole V.Kind.form V.Kind.parse clock (S.Store.means store) result }
+    ensures starts { view S.Store.means result ≡ started (S.Store.means store) clock }
+    ensures opens { Opens S.Store.means V.Kind.form V.Kind.parse clock (S.Store.means store) result }
 {
     Register::start(store, clock)
 }
 
 // Makes a call on a register.
 pub fn perform<S: Store, V: Kind + Drop>(register: &mut Register<S, V>, call: Call<V>) -> Answer<V>
-    ensures step { Does S.Store.means S.Store.whole V.Kind.form V.Kind.parse register.old call result register.new }
-    ensures serial { Continues S.Store.means S.Store.whole V.Kind.form V.Kind.parse register.old call result register.new }
+    ensures step { Does S.Store.means V.Kind.form V.Kind.parse register.old call result register.new }
+    ensures serial { Continues S.Store.means V.Kind.form V.Kind.parse register.old call result register.new }
 {
     register.call(call)
 }

@@ -1,5 +1,4 @@
 ghost use Rattle.std.specs.Prelude.{◌≡◌};
-ghost use Rattle.register.specs.Kept.{Kept};
 ghost use Rattle.register.specs.Start.{started};
 ghost use Rattle.register.specs.View.{view};
 
@@ -14,10 +13,10 @@ use std::marker::PhantomData;
 impl<S: Store, V: Kind> Register<S, V> {
     // Starts a register over a store. It is fit if the clock is in range, and every item is a version from before it.
     pub fn start(store: S, clock: u32) -> Register<S, V>
-        ensures { S.Store.whole store → (view S.Store.means result ≡ started (S.Store.means store) clock) × Kept S.Store.means S.Store.whole result.store }
+        ensures { view S.Store.means result ≡ started (S.Store.means store) clock }
     {
         let before = is_before(&store, clock);
-        let fit = clock >= 1 && clock < SPENT_AT && before;
+        let fit = (1..SPENT_AT).contains(&clock) && before;
         Register {
             store,
             ledger: Ledger::new(clock),

@@ -2,16 +2,16 @@ ghost use Rattle.std.specs.Prelude.{◌≡◌, false, None};
 ghost use Rattle.history.specs.Chain.{is_version};
 ghost use Rattle.history.specs.Meaning.{cause_of};
 ghost use Rattle.history.specs.Meaning.Op.{At};
-ghost use Rattle.ledger.specs.Answers.{tallied};
+ghost use Rattle.ledger.specs.Answers.{told};
 ghost use Rattle.ledger.specs.declared.call.Call.TheVariants.{Settle};
+ghost use Rattle.ledger.specs.declared.call.Answer.TheVariants.{Refused, Settled as SettledAnswer};
 ghost use Rattle.register.specs.Calls.{Step};
-ghost use Rattle.register.specs.Kept.{Kept, Gives};
 ghost use Rattle.register.specs.Settled.{Settled};
-ghost use Rattle.register.specs.Settling.{Held, Settles};
+ghost use Rattle.register.specs.Settling.{Gives, Held, Settles};
 ghost use Rattle.register.specs.View.{view, Does};
 
 use crate::register::Register;
-use crate::walk::{TURNS, Walk};
+use crate::walk::Walk;
 use history::item::Item;
 use history::store::Store;
 use kinds::kind::Kind;
@@ -22,7 +22,8 @@ impl<S: Store, V: Kind + Drop> Register<S, V> {
     // Settles an item, and says its fate: seals a committed token and drops an aborted one.
     // A version and an open token stay as they are.
     pub(super) fn settle_item(&mut self, object: u32, item: Item) -> Result<Standing, Refusal>
-        ensures { Kept S.Store.means S.Store.whole self.old.store → (is_version item ≡ false → Held (S.Store.means self.old.store) object item) → Gives (λ f. Settles (view S.Store.means self.old) object item f (view S.Store.means self.new) × Kept S.Store.means S.Store.whole self.new.store) result }
+        requires { is_version item ≡ false → Held (S.Store.means self.old.store) object item }
+        ensures { Gives (λ f. Settles (view S.Store.means self.old) object item f (view S.Store.means self.new)) result }
     {
         let fate = self.ledger.fate(item);
         match fate {
@@ -39,27 +40,25 @@ impl<S: Store, V: Kind + Drop> Register<S, V> {
         Ok(fate)
     }
 
-    // Settles every token of an object, and says how many were sealed and dropped. A chain has fewer items than the walk has turns.
+    // Settles every token of an object, and says how many were sealed and dropped.
     fn settle_all(&mut self, object: u32) -> Result<Walk, Refusal>
-        ensures { Kept S.Store.means S.Store.whole self.old.store → cause_of (S.Store.means self.old.store) object At ≡ None → Gives (λ w. Settled (view S.Store.means self.old) object w (view S.Store.means self.new) × Kept S.Store.means S.Store.whole self.new.store) result }
+        requires { cause_of (S.Store.means self.old.store) object At ≡ None }
+        ensures { Gives (λ w. Settled (view S.Store.means self.old) object w (view S.Store.means self.new)) result }
     {
         let mut walk = Walk {
             place: 0,
             sealed: 0,
             dropped: 0,
         };
-        for turn in 0..TURNS {
-            let Some(item) = self.store.at(object, walk.place)? else {
-                return Ok(walk);
-            };
+        while let Some(item) = self.store.at(object, walk.place)? {
             let fate = self.settle_item(object, item)?;
             walk = walk.past(fate);
         }
-        Err(Refusal::NotFit)
+        Ok(walk)
     }
 
     pub fn settle(&mut self, object: u32) -> Result<(u32, u32), Refusal>
-        ensures { Does S.Store.means S.Store.whole V.Kind.form V.Kind.parse self.old (Settle object) (tallied result) self.new }
+        ensures { Does S.Store.means V.Kind.form V.Kind.parse self.old (Settle object) (told Refused SettledAnswer result) self.new }
     {
         self.check_fit()?;
         let _ = self.store.at(object, 0)?;

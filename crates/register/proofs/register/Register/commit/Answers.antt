@@ -1,7 +1,7 @@
 use Rattle.std.proofs.Common.{sym, refl, ◌∙◌}
 use Rattle.ledger.specs.declared.call.Call.TheVariants.{Commit}
 use Rattle.ledger.specs.declared.record.Event.TheVariants.{Commit as EventCommit}
-use Rattle.ledger.specs.Answers.{done}
+use Rattle.ledger.specs.declared.call.Answer.TheVariants.{Done}
 use Rattle.ledger.specs.Checks.{ticket_check}
 use Rattle.ledger.specs.Records.{change_record, concluded}
 use Rattle.ledger.proofs.Checks.{checked_ok}
@@ -10,12 +10,9 @@ use Rattle.register.proofs.Checks.{left_same, ledger_ends, step_of}
 use Rattle.register.proofs.register.Register.commit.Goals as goal
 
 pub returns : goal.returns
-returns g c w =
+returns g c =
     let s = view g.S.Store.means c.args.self.now in
     let k = ticket_check s.records s.clocks c.args.ticket in
-    let e = c.conclude.ensures in (
-      step_of g.V.Kind.form g.V.Kind.parse s (Commit c.args.ticket) k _ refl _ _ (checked_ok _ _ _ c.in_ok-check_fit.ensures).0
-          (ledger_ends s _ done tt (change_record (concluded EventCommit) s.records c.args.ticket.0) s.clocks (λ _. refl) k c.conclude.result e.answer refl e.records (e.clocks ∙ sym (left_same k _)) refl),
-      w,
-      λ h. h,
-    )
+    let e = c.conclude.ensures in
+    step_of g.V.Kind.form g.V.Kind.parse s (Commit c.args.ticket) k _ refl _ _ (checked_ok _ _ _ c.in_ok-check_fit.ensures).0
+    (ledger_ends s _ (λ _. Done) tt (change_record (concluded EventCommit) s.records c.args.ticket.0) s.clocks k c.conclude.result e.answer refl e.records (e.clocks ∙ sym (left_same k _)) refl)

@@ -11,47 +11,36 @@ use Rattle.register.proofs.Stores.{update_done, update_refused}
 use Rattle.register.proofs.register.Register.update.Goals as goal
 
 pub returns-in-Ok : goal.returns-in-Ok
-returns-in-Ok g c k =
+returns-in-Ok g c =
     let s = view g.S.Store.means c.args.self.now in
     let timed = checked_ok _ _ _ c.in_ok-time.ensures in
     let at = timed.1 in
     let e = c.in-Ok.ensures in
     let is : Put c.in_ok-time.time c.args.ticket.0 c.to_form.result ≡ Put (time_of s.clocks c.args.ticket.1) c.args.ticket.0 (g.V.Kind.form c.args.value) = cc in
-    let after = e.after k in (
-      update_done g.V.Kind.form g.V.Kind.parse s c.args.ticket c.args.object c.args.value
-          _ (checked_ok _ _ _ c.in_ok-check_fit.ensures).0 timed.0
-          (subst (λ op. Outcome s.store c.args.object op (g.S.Store.means c.put.new.self)) is after.0) refl
-          (subst (λ op. Ok tt ≡ answered s.store c.args.object op tt) is (e.answer k))
-          c.charge.ensures.records c.charge.ensures.clocks,
-      after.1,
-      λ _. after.0.sound.1,
-    )
+    update_done g.V.Kind.form g.V.Kind.parse s c.args.ticket c.args.object c.args.value
+    _ (checked_ok _ _ _ c.in_ok-check_fit.ensures).0 timed.0
+    (subst (λ op. Outcome s.store c.args.object op (g.S.Store.means c.put.new.self)) is e.after) refl
+    (subst (λ op. Ok tt ≡ answered s.store c.args.object op tt) is e.answer)
+    c.charge.ensures.records c.charge.ensures.clocks
 
 pub returns : goal.returns
-returns g c k =
+returns g c =
     let s = view g.S.Store.means c.args.self.now in
     let timed = checked_ok _ _ _ c.in_ok-time.ensures in
     let at = timed.1 in
     let e = c.in-Err.ensures in
     let is : Put c.in_ok-time.time c.args.ticket.0 c.to_form.result ≡ Put (time_of s.clocks c.args.ticket.1) c.args.ticket.0 (g.V.Kind.form c.args.value) = cc in
-    let after = e.after k in (
-      update_refused g.V.Kind.form g.V.Kind.parse s c.args.ticket c.args.object c.args.value
-          _ (checked_ok _ _ _ c.in_ok-check_fit.ensures).0 timed.0
-          (subst (λ op. Outcome s.store c.args.object op (g.S.Store.means c.put.new.self)) is after.0) refl
-          c.in-Err.fault c.from-refusal.result
-          (subst (λ op. Err c.in-Err.fault ≡ answered s.store c.args.object op tt) is (e.answer k))
-          c.from-refusal.ensures c.turn_down.ensures.records c.turn_down.ensures.clocks,
-      after.1,
-      λ _. after.0.sound.1,
-    )
+    update_refused g.V.Kind.form g.V.Kind.parse s c.args.ticket c.args.object c.args.value
+    _ (checked_ok _ _ _ c.in_ok-check_fit.ensures).0 timed.0
+    (subst (λ op. Outcome s.store c.args.object op (g.S.Store.means c.put.new.self)) is e.after) refl
+    c.in-Err.fault c.from-refusal.result
+    (subst (λ op. Err c.in-Err.fault ≡ answered s.store c.args.object op tt) is e.answer)
+    c.from-refusal.ensures c.turn_down.ensures.records c.turn_down.ensures.clocks
 
 pub returns-in_err-time : goal.returns-in_err-time
-returns-in_err-time g c w =
+returns-in_err-time g c =
     let p = err_from_is_err_and c.from_residual-in_err-time.result c.from_residual-in_err-time.ensures.1 in
-    let s = view g.S.Store.means c.args.self.now in (
-      rw (p.1, p.2)
-          (turned_down g.V.Kind.form g.V.Kind.parse s (Update c.args.ticket c.args.object c.args.value) (action_check s.records s.clocks c.args.ticket) _ refl _
-          (checked_ok _ _ _ c.in_ok-check_fit.ensures).0 (checked_err _ _ _ c.in_err-time.ensures)),
-      w,
-      λ h. h,
-    )
+    let s = view g.S.Store.means c.args.self.now in
+    rw (p.1, p.2)
+    (turned_down g.V.Kind.form g.V.Kind.parse s (Update c.args.ticket c.args.object c.args.value) (action_check s.records s.clocks c.args.ticket) _ refl _
+    (checked_ok _ _ _ c.in_ok-check_fit.ensures).0 (checked_err _ _ _ c.in_err-time.ensures))
