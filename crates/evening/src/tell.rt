@@ -1,62 +1,24 @@
-// Values, answers and stored lines in plain words.
-use crate::reading::read;
-use history::store::Store;
-use kinds::place::Place;
-use kinds::seats::Seats;
+// Answers in plain words.
 use ledger::call::Answer;
-use ledger::record::Standing;
-use std::io;
+use ledger::record::standing_word;
+use std::fmt;
 
-pub fn tell_place(rt: &impl Print, place: Place) -> io::Result<()> {
-    match place {
-        Place::Vacant => print!(rt; "vacant"),
-        Place::Held { teacher, classroom } => {
-            let teacher = teacher.number();
-            let classroom = classroom.number();
-            print!(rt; "teacher {teacher} in classroom {classroom}")
+#[derive(Drop)]
+pub struct Told<'a, V>(pub &'a Answer<V>);
+
+impl<V: fmt::Display> fmt::Display for Told<'_, V> {
+    fn fmt<W: fmt::Write>(&self, f: &mut fmt::Formatter<W>) -> fmt::Result {
+        match self.0 {
+            Answer::Began((record, creation)) => write!(f, "begun, ticket {record} {creation}"),
+            Answer::Value(value) => write!(f, "{value}"),
+            Answer::Wait(record) => write!(f, "wait for record {record}"),
+            Answer::Done => write!(f, "done"),
+            Answer::Settled((sealed, dropped)) => write!(f, "{sealed} sealed, {dropped} dropped"),
+            Answer::Stands(standing, tokens) => {
+                let word = standing_word(*standing);
+                write!(f, "{word}, {tokens} tokens left")
+            }
+            Answer::Refused(refusal) => write!(f, "refused with {}", refusal.number()),
         }
     }
-}
-
-pub fn tell_seats(rt: &impl Print, seats: Seats) -> io::Result<()> {
-    let free = seats.value();
-    print!(rt; "{free} free seats")
-}
-
-fn word(standing: &Option<Standing>) -> &'static str {
-    match standing {
-        None => "unused",
-        Some(Standing::Open) => "open",
-        Some(Standing::Committed) => "committed",
-        Some(Standing::Aborted) => "aborted",
-    }
-}
-
-// An answer that is no value.
-pub fn tell_plain<V>(rt: &impl Print, answer: &Answer<V>) -> io::Result<()> {
-    match answer {
-        Answer::Began((record, creation)) => print!(rt; "begun, ticket {record} {creation}"),
-        Answer::Wait(record) => print!(rt; "wait for record {record}"),
-        Answer::Settled((sealed, dropped)) => print!(rt; "{sealed} sealed, {dropped} dropped"),
-        Answer::Stands(standing, tokens) => {
-            let word = word(standing);
-            print!(rt; "{word}, {tokens} tokens left")
-        }
-        Answer::Refused(refusal) => {
-            let number = refusal.number();
-            print!(rt; "refused with {number}")
-        }
-        _ => print!(rt; "done"),
-    }
-}
-
-// Reads the places from a store itself, at a late pseudo-time.
-pub fn tell_places<P: Store>(rt: &impl Print, places: &mut P, time: u64) -> anyhow::Result<()> {
-    for line in 0..3 {
-        let (place, settled) = read::<Place, P>(places, line, time)?;
-        print!(rt; "  line {line}: ")?;
-        tell_place(rt, place)?;
-        println!(rt; "{}", if settled { "" } else { " (not settled)" })?;
-    }
-    Ok(())
 }

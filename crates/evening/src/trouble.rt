@@ -23,15 +23,13 @@ impl From<Fault> for Trouble {
 impl fmt::Display for Trouble {
     fn fmt<W: fmt::Write>(&self, f: &mut fmt::Formatter<W>) -> fmt::Result {
         match self {
-            Trouble::Refused(fault) => {
-                let cause = fault.cause.number();
-                let object = fault.object;
-                let time = fault.time;
-                write!(
-                    f,
-                    "refused: cause {cause}, line {object}, pseudo-time {time}"
-                )
-            }
+            Trouble::Refused(fault) => write!(
+                f,
+                "refused: cause {}, line {}, pseudo-time {}",
+                fault.cause.number(),
+                fault.object,
+                fault.time
+            ),
             Trouble::NoForm(number) => write!(f, "{number} is no form"),
         }
     }

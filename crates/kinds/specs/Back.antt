@@ -1,31 +1,26 @@
 -- Forms read back, and nothing else is read.
-use Rattle.std.specs.Prelude.{◌≡◌, ℕ, ◌+◌, ◌-◌, ◌*◌, ◌/◌, ◌%◌, ◌<◌, ◌≤◌, Bool, true, false, cond, ◌&&◌, ℤ, pos, negsuc, ◌≤ℤ◌, Some, None, Option, ◌==◌, ◌≢◌, nat_le, is_some, refl}
+use Rattle.std.specs.Prelude.{◌≡◌, ℕ, ◌+◌, ◌-◌, ◌*◌, ◌/◌, ◌%◌, ◌<◌, ◌≤◌, Bool, true, false, cond, ◌&&◌, ℤ, pos, negsuc, ◌≤ℤ◌, Some, None, Option, ◌==◌, ◌≢◌, nat_le, is_some, IsSome, IfSome, refl}
 use Rattle.std.proofs.Common.{ap, sym, ◌∙◌, arith}
 use mathlib.Core.HLevel.{is_prop→PathP}
 use denote.Struct.Props.{props}
 use Rattle.std.proofs.lemmas.Int.{ints}
 use Rattle.std.proofs.lemmas.Bool.{leb-true, le-leb, lt-leb, eqb-true, ne_eqb, and_from, cond-true, cond-false}
-use Rattle.kinds.specs.Ranges.{seats_value, seats_fit, teacher_fits, classroom_fits}
+use Rattle.kinds.specs.Ranges.{InRange, seats_value, seats_fit, teacher_fits, classroom_fits}
 use Rattle.kinds.specs.Forms.{given_that, seats_form, seats_parse, place_form, place_parse}
 use Rattle.kinds.specs.declared.seats.Seats.{Seats}
-use Rattle.kinds.specs.declared.place.Teacher.{Teacher}
-use Rattle.kinds.specs.declared.place.Classroom.{Classroom}
+use Rattle.kinds.specs.declared.place.Numbered.{Numbered}
 use Rattle.kinds.specs.declared.place.Place.{Place}
 use Rattle.kinds.specs.declared.place.Place.TheVariants.{Vacant, Held}
 
 none_some : {A : Type 0} (x : A) → ◌≡◌ {A = Option A} None (Some x) → ⊥
-none_some x e = let z : ◌≡◌ {A = ℕ} 0 1 = cc in omega arith
+none_some x e = cc
 
 some_is : {A : Type 0} (x y : A) → ◌≡◌ {A = Option A} (Some x) (Some y) → x ≡ y
 some_is x y e = cc
 
 given_some : {A : Type 0} (b : Bool) (f : b ≡ true → Option A) (k : Option A) → b ≡ true → ((q : b ≡ true) → f q ≡ k) → given_that b f ≡ k
 given_some true f k e h = h refl
-given_some false f k e h = let z : ◌≡◌ {A = ℕ} 0 1 = cc in absurd (omega arith)
-
-given_none : {A : Type 0} (b : Bool) (f : b ≡ true → Option A) → b ≡ false → given_that b f ≡ None
-given_none true f e = let z : ◌≡◌ {A = ℕ} 0 1 = cc in absurd (omega arith)
-given_none false f e = refl
+given_some false f k e h = cc
 
 given_is : {A : Type 0} (b : Bool) (f : b ≡ true → Option A) (x : A) → given_that b f ≡ Some x → (q : b ≡ true) × (f q ≡ Some x)
 given_is true f x e = (refl, e)
@@ -76,40 +71,31 @@ seats_bounded v = (value_form v.value v.fits.0 v.fits.1).0
 pub seats_attained : is_some (seats_parse 65535) ≡ true
 seats_attained = refl
 
-pub seats_none : (n : ℕ) → 65535 < n → seats_parse n ≡ None
-seats_none n lt = given_none (nat_le n 65535) _ (lt-leb n 65535 lt)
-
 pub seats_read : (n : ℕ) (v : Seats) → seats_form v.value ≡ n → Some v ≡ seats_parse n
 seats_read n v e = sym (seats_back v) ∙ ap seats_parse e
 
 -- places
 
-same_teacher : (v w : Teacher) → v.number ≡ w.number → v ≡ w
-same_teacher v w e j = record {
+same_number : {most : ℕ} (v w : Numbered most) → v.number ≡ w.number → v ≡ w
+same_number {most} v w e j = record {
   number = e j;
-  ok = is_prop→PathP (λ k. (1 ≤ e k) × (e k ≤ 9999)) (λ k. hlevel props) v.ok w.ok j;
-}
-
-same_classroom : (v w : Classroom) → v.number ≡ w.number → v ≡ w
-same_classroom v w e j = record {
-  number = e j;
-  ok = is_prop→PathP (λ k. (1 ≤ e k) × (e k ≤ 999)) (λ k. hlevel props) v.ok w.ok j;
+  in_range = is_prop→PathP (λ k. InRange most (e k)) (λ k. hlevel props) v.in_range w.in_range j;
 }
 
 abbrev is_held : ℕ → Bool
 is_held n = nat_le 1 (n / 1000) && (nat_le (n / 1000) 9999 && nat_le 1 (n % 1000))
 
-held_parse : (n : ℕ) → (n == 0) ≡ false → place_parse n ≡ given_that (is_held n) (λ e. Some (Held (record { number = n / 1000; ok = teacher_fits n e }) (record { number = n % 1000; ok = classroom_fits n e })))
+held_parse : (n : ℕ) → (n == 0) ≡ false → place_parse n ≡ given_that (is_held n) (λ e. Some (Held (record { number = n / 1000; in_range = teacher_fits n e }) (record { number = n % 1000; in_range = classroom_fits n e })))
 held_parse n e = cond-false (n == 0) _ _ e
 
 pub place_back : (v : Place) → place_parse (place_form v) ≡ Some v
 place_back Vacant = refl
 place_back (Held t c) =
     let n = t.number * 1000 + c.number in
-    let tl = t.ok.0 in
-    let th = t.ok.1 in
-    let cl = c.ok.0 in
-    let ch = c.ok.1 in
+    let tl = t.in_range.0 in
+    let th = t.in_range.1 in
+    let cl = c.in_range.0 in
+    let ch = c.in_range.1 in
     let a : n / 1000 ≡ t.number = omega arith in
     let b : n % 1000 ≡ c.number = omega arith in
     let a1 : 1 ≤ n / 1000 = omega arith in
@@ -119,8 +105,8 @@ place_back (Held t c) =
     ∙ given_some (is_held n) _ (Some (Held t c))
     (and_from (nat_le 1 (n / 1000)) (nat_le (n / 1000) 9999 && nat_le 1 (n % 1000)) (le-leb 1 (n / 1000) a1)
     (and_from (nat_le (n / 1000) 9999) (nat_le 1 (n % 1000)) (le-leb (n / 1000) 9999 a2) (le-leb 1 (n % 1000) b1)))
-    (λ q. let p = same_teacher (record { number = n / 1000; ok = teacher_fits n q }) t a in
-    let r = same_classroom (record { number = n % 1000; ok = classroom_fits n q }) c b in
+    (λ q. let p = same_number (record { number = n / 1000; in_range = teacher_fits n q }) t a in
+    let r = same_number (record { number = n % 1000; in_range = classroom_fits n q }) c b in
     λ j. Some (Held (p j) (r j)))
 
 pub place_only : (n : ℕ) (v : Place) → place_parse n ≡ Some v → n ≡ place_form v
@@ -135,18 +121,33 @@ place_only n v e = go (n == 0) refl
 
 pub place_bounded : (v : Place) → place_form v ≤ 9999999
 place_bounded Vacant = omega arith
-place_bounded (Held t c) = let th = t.ok.1 in let ch = c.ok.1 in omega arith
+place_bounded (Held t c) = let th = t.in_range.1 in let ch = c.in_range.1 in omega arith
 
 pub place_attained : is_some (place_parse 9999999) ≡ true
 place_attained = refl
 
-pub place_read : (n : ℕ) (v : Place) → place_form v ≡ n → Some v ≡ place_parse n
+place_read : (n : ℕ) (v : Place) → place_form v ≡ n → Some v ≡ place_parse n
 place_read n v e = sym (place_back v) ∙ ap place_parse e
 
 -- a number that has no teacher, or no classroom
-pub place_none : (n : ℕ) → (n ≢ 0) → ((v : Place) → place_form v ≢ n) → place_parse n ≡ None
+place_none : (n : ℕ) → (n ≢ 0) → ((v : Place) → place_form v ≢ n) → place_parse n ≡ None
 place_none n nz absent = go (place_parse n) refl
   where
     go : (k : Option Place) → place_parse n ≡ k → k ≡ None
     go None q = refl
     go (Some v) q = absurd (absent v (sym (place_only n v q)))
+
+-- the place of a number's teacher and classroom, if there is one
+pub place_by_parts : (n t c : ℕ) (o : Option Place) → n ≢ 0 → t ≡ n / 1000 → c ≡ n % 1000
+    → (InRange 9999 t × InRange 999 c → IsSome o) → IfSome o (λ p. place_form p ≡ t * 1000 + c) → o ≡ place_parse n
+place_by_parts n t c None nz tn cn in_range value = sym (place_none n nz absent)
+  where
+    absent : (v : Place) → place_form v ≢ n
+    absent Vacant e = nz (sym e)
+    absent (Held u d) e =
+        let tl = u.in_range.0 in
+        let th = u.in_range.1 in
+        let cl = d.in_range.0 in
+        let ch = d.in_range.1 in
+        let some : ◌≡◌ {A = Bool} false true = in_range ((omega arith, omega arith), (omega arith, omega arith)) in cc
+place_by_parts n t c (Some p) nz tn cn in_range value = place_read n p (omega (arith, value))

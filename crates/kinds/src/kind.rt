@@ -5,11 +5,11 @@ pub trait Kind: Sized {
     // The greatest form.
     const GREATEST: u64;
 
+    ghost GREATEST: { ℕ };
+
     ghost form: { Self → ℕ };
 
     ghost parse: { ℕ → Option Self };
-
-    ghost greatest: { ℕ };
 
     fn to_form(&self) -> u64
         ensures { result ≡ form self.now };
@@ -17,15 +17,11 @@ pub trait Kind: Sized {
     fn from_form(number: u64) -> Option<Self>
         ensures { result ≡ parse number };
 
-    // The constant, told to contracts by the ghost member.
-    fn greatest_form() -> u64
-        ensures { result ≡ greatest };
-
     ghost reads_back: { (v : Self) → parse (form v) ≡ Some v };
 
     ghost only_forms: { (n : ℕ) (v : Self) → parse n ≡ Some v → n ≡ form v };
 
-    ghost bounded: { (v : Self) → form v ≤ greatest };
+    ghost bounded: { (v : Self) → form v ≤ GREATEST };
 
-    ghost attained: { is_some (parse greatest) ≡ true };
+    ghost attained: { is_some (parse GREATEST) ≡ true };
 }

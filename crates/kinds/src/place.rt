@@ -1,20 +1,17 @@
-ghost use Rattle.std.specs.Prelude.{◌≡◌, ℕ, ◌+◌, ◌*◌, ◌^◌, ◌<◌, ◌≤◌};
+ghost use Rattle.kinds.specs.Ranges.{InRange};
 
 pub mod held;
 
-// The number of a teacher, 1 to 9,999.
+// A number from 1 to MOST.
 #[derive(Clone, Copy, PartialEq, Eq, Debug)]
-pub struct Teacher {
+pub struct Numbered<const MOST: u16> {
     number: u16,
-    ghost ok: { (1 ≤ number) × (number ≤ 9999) },
+    ghost in_range: { InRange MOST number },
 }
 
-// The number of a classroom, 1 to 999.
-#[derive(Clone, Copy, PartialEq, Eq, Debug)]
-pub struct Classroom {
-    number: u16,
-    ghost ok: { (1 ≤ number) × (number ≤ 999) },
-}
+pub type Teacher = Numbered<9999>;
+
+pub type Classroom = Numbered<999>;
 
 // Who holds a line of the evening table, and where.
 #[derive(Clone, Copy, PartialEq, Eq, Debug)]

@@ -1,4 +1,4 @@
-ghost use Rattle.std.specs.Prelude.{◌≡◌, ℕ, ◌^◌, ◌<◌, ◌≤◌, ℤ, pos, negsuc, ◌≤ℤ◌};
+ghost use Rattle.std.specs.Prelude.{ℤ, pos, negsuc, ◌≤ℤ◌};
 
 pub mod form;
 
@@ -9,16 +9,22 @@ pub struct Seats {
     ghost fits: { (negsuc 32767 ≤ℤ value) × (value ≤ℤ pos 32767) },
 }
 
-impl Seats {
-    pub fn new(value: i16) -> Self
-        ensures { result.value ≡ value }
-    {
+impl From<i16> for Seats {
+    ghost use Rattle.std.specs.Prelude.{◌≡◌};
+
+    ghost from_gives = { λ value seats. seats.value ≡ value };
+
+    fn from(value: i16) -> Seats {
         Seats { value }
     }
+}
 
-    pub fn value(&self) -> i16
-        ensures { result ≡ self.now.value }
-    {
-        self.value
+impl From<Seats> for i16 {
+    ghost use Rattle.std.specs.Prelude.{◌≡◌};
+
+    ghost from_gives = { λ seats value. value ≡ seats.value };
+
+    fn from(seats: Seats) -> i16 {
+        seats.value
     }
 }

@@ -11,7 +11,7 @@ use Rattle.serial.specs.Reaches.{Reaches}
 use Rattle.script.specs.Format.{call_of}
 use Rattle.playing.specs.Played.{form, answer_to, noted, state_after, output, events, final}
 
-module _ {S : Type 0} (means : S → Meaning) (whole : S → Type 0) where
+module _ {S : Type 0} (means : S → Meaning) where
   -- a store means what its bytes mean
   abbrev pub InBytes : (List ℕ → Meaning) → Type 0
   InBytes meaning = (s : S) → means s ≡ meaning (means s).image
@@ -20,20 +20,20 @@ module _ {S : Type 0} (means : S → Meaning) (whole : S → Type 0) where
   pub record Turn (meaning : List ℕ → Meaning) (c : ℕ) (m : Meaning) (h : History Seats) (before : Register S Seats) (line : List ℕ) (answer : Answer Seats) (after : Register S Seats) : Type 0 where
     pub answers : answer ≡ answer_to (view means before) (call_of line)
     pub leads : view means after ≡ state_after meaning (view means before) (call_of line)
-    pub reaches : Reaches means whole form seats_parse c m (noted (view means before) (call_of line) h) after
+    pub reaches : Reaches means form seats_parse c m (noted (view means before) (call_of line) h) after
 
   abbrev pub Takes : Register S Seats → List ℕ → Answer Seats → Register S Seats → Type 0
   Takes before line answer after =
       (meaning : List ℕ → Meaning) → InBytes meaning → (c : ℕ) (m : Meaning) (h : History Seats)
-      → Reaches means whole form seats_parse c m h before → Turn meaning c m h before line answer after
+      → Reaches means form seats_parse c m h before → Turn meaning c m h before line answer after
 
   -- lines answered one after another, with what they print
   pub record Run (meaning : List ℕ → Meaning) (c : ℕ) (m : Meaning) (h : History Seats) (before : Register S Seats) (script : List (List ℕ)) (out : List ℕ) (after : Register S Seats) : Type 0 where
     pub prints : out ≡ output meaning (view means before) script
     pub leads : view means after ≡ final meaning (view means before) script
-    pub reaches : Reaches means whole form seats_parse c m (events meaning h (view means before) script) after
+    pub reaches : Reaches means form seats_parse c m (events meaning h (view means before) script) after
 
   abbrev pub Runs : Register S Seats → List (List ℕ) → List ℕ → Register S Seats → Type 0
   Runs before script out after =
       (meaning : List ℕ → Meaning) → InBytes meaning → (c : ℕ) (m : Meaning) (h : History Seats)
-      → Reaches means whole form seats_parse c m h before → Run meaning c m h before script out after
+      → Reaches means form seats_parse c m h before → Run meaning c m h before script out after

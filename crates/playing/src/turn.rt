@@ -1,5 +1,6 @@
 // The lines of a script, one after another.
 ghost use Rattle.std.specs.Prelude.{IfOk};
+ghost use Rattle.std.specs.String.{string_bytes};
 ghost use Rattle.script.specs.Lines.{lines};
 ghost use Rattle.playing.specs.Turns.{Takes, Runs};
 
@@ -8,15 +9,15 @@ use kinds::seats::Seats;
 use ledger::call::Answer;
 use ledger::refusal::Refusal;
 use register::register::Register;
-use script::piece::length_before;
+use script::piece::Lines;
 use script::reading::call_of;
-use script::writing::print;
+use script::writing::write_line;
 use serial::perform;
 use std::alloc::{AllocError, Global};
 
 // The answer to one line: no call is made where it is unreadable.
 fn answer<S: Store>(register: &mut Register<S, Seats>, line: &[u8]) -> Answer<Seats>
-    ensures { Takes S.Store.means S.Store.whole register.old line.now result register.new }
+    ensures { Takes S.Store.means register.old line.now result register.new }
 {
     match call_of(line) {
         Some(call) => perform(register, call),
@@ -29,16 +30,12 @@ pub(crate) fn run<S: Store>(
     heap: Global,
     register: &mut Register<S, Seats>,
     script: &[u8],
-) -> Result<Vec<u8>, AllocError>
-    ensures { IfOk result (λ v. Runs S.Store.means S.Store.whole register.old (lines script.now) v.items register.new) }
+) -> Result<String, AllocError>
+    ensures { IfOk result (λ v. Runs S.Store.means register.old (lines script.now) (string_bytes v) register.new) }
 {
-    let mut output = Vec::new(heap);
-    let mut from = 0;
-    while from < script.len() {
-        let rest = &script[from..];
-        let end = length_before(rest, b'\n');
-        print(&mut output, &answer(register, &rest[0..end]))?;
-        from += end + 1;
+    let mut output = String::new(heap);
+    for line in Lines::of(script) {
+        write_line(&mut output, &answer(register, line))?;
     }
     Ok(output)
 }

@@ -10,7 +10,8 @@ use Rattle.ledger.specs.declared.call.Answer.TheVariants.{Began, Value, Wait, Do
 use Rattle.ledger.specs.Refusals.{refusal_number}
 use Rattle.script.specs.Format.{differs}
 use Rattle.script.specs.Lines.{lines, onto_first}
-use Rattle.script.specs.Printed.{word, shown, printed}
+use Rattle.ledger.specs.Words.{standing_word}
+use Rattle.script.specs.Printed.{shown, printed}
 
 -- no byte ends a line
 abbrev no_end : List ℕ → Bool
@@ -40,7 +41,7 @@ signed_no_end : (z : ℤ) → no_end (signed_decimal z) ≡ true
 signed_no_end (pos n) = decimal_no_end n
 signed_no_end (negsuc n) = decimal_no_end (suc n)
 
-word_no_end : (s : Option Standing) → no_end (word s) ≡ true
+word_no_end : (s : Option Standing) → no_end (standing_word s) ≡ true
 word_no_end None = refl
 word_no_end (Some Open) = refl
 word_no_end (Some Committed) = refl
@@ -52,7 +53,7 @@ shown_no_end (Value v) = signed_no_end v.value
 shown_no_end (Wait r) = decimal_no_end r
 shown_no_end Done = refl
 shown_no_end (Settled n) = no_end-++ (decimal n.0) _ (decimal_no_end n.0) (decimal_no_end n.1)
-shown_no_end (Stands s n) = no_end-++ (word s) _ (word_no_end s) (decimal_no_end n)
+shown_no_end (Stands s n) = no_end-++ (standing_word s) _ (word_no_end s) (decimal_no_end n)
 shown_no_end (Refused why) = decimal_no_end (refusal_number why)
 
 line_ends : (t rest : List ℕ) → no_end t ≡ true → lines (t ++ (10 ∷ rest)) ≡ t ∷ lines rest

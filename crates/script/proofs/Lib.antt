@@ -1,7 +1,6 @@
 pub mod Options
 pub mod Numbers
 pub mod Values
-pub mod Pieces
 pub mod Spelled
 pub mod Shown
 pub mod Cuts

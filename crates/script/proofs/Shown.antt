@@ -1,27 +1,22 @@
 -- A call's own line spells it.
-use Rattle.std.proofs.Common.{◌≡◌, ℕ, suc, ◌≤◌, true, List, [], ◌∷◌, ℤ, pos, negsuc, decimal, refl, inl, inr, arith}
+use Rattle.std.proofs.Common.{ℕ, suc, ◌≤◌, List, [], ◌∷◌, ℤ, pos, negsuc, decimal, refl, inl, inr, arith}
 use lib.Signed.{mag}
-use Rattle.std.specs.Str.Parse.{digits_value}
 use Rattle.std.specs.Fmt.{signed_decimal}
 use Rattle.std.specs.List.{AllByRecursion}
-use Rattle.std.specs.Str.{all_ascii_digits}
 use Rattle.std.proofs.lemmas.Fmt.{decimal_nonempty, length-decimal-le, digits_decimal, digits_value-decimal}
-use Rattle.std.proofs.lemmas.Str.Parse.{IsNumeralModel, numerals_by_value, tells_all_ascii_digits}
 use Rattle.kinds.specs.declared.seats.Seats.{Seats}
 use Rattle.ledger.specs.declared.call.Call.{Call}
 use Rattle.ledger.specs.declared.call.Call.TheVariants.{Begin, Read, Update, Commit, Abort, Glance, Tick, Settle, Standing}
+use Rattle.script.proofs.Numbers.{digits_model}
 use Rattle.script.proofs.Values.{seats_mag}
 use Rattle.script.specs.Spelling.{Field, plain, seats, fields, Number, Text, Fields, Spells, spaced, line_of, Fits}
-
-own : IsNumeralModel (λ ds. all_ascii_digits ds ≡ true) (digits_value 10)
-own = numerals_by_value _ tells_all_ascii_digits
 
 decimal_number : (n : ℕ) → n ≤ 4294967295 → Number (decimal n) n
 decimal_number n h = record {
   some = decimal_nonempty n (omega arith);
   few = length-decimal-le 10 n (omega arith) (omega arith) (omega arith);
-  digits = digits_decimal own n (omega arith);
-  writes = digits_value-decimal own n (omega arith);
+  digits = digits_decimal digits_model n (omega arith);
+  writes = digits_value-decimal digits_model n (omega arith);
   bounded = h;
 }
 

@@ -47,43 +47,39 @@ read_number bs = after (field bs) (λ f. after (number_in f.0) (λ n. Some (n, f
 abbrev pub read_value : List ℕ → Option (Seats × List ℕ)
 read_value bs = after (field bs) (λ f. after (value_in f.0) (λ v. Some (v, f.1)))
 
--- an answer, where nothing follows
-abbrev pub ended : {A : Type 0} → List ℕ → A → Option A
-ended rest a = cond (length rest == 0) (Some a) None
+-- two things, one after the other
+abbrev pub both : {A B : Type 0} → (List ℕ → Option (A × List ℕ)) → (List ℕ → Option (B × List ℕ)) → List ℕ → Option ((A × B) × List ℕ)
+both first second bs = after (first bs) (λ a. after (second a.1) (λ b. Some ((a.0, b.0), b.1)))
 
--- one, two or three numbers that are all the fields
-abbrev pub one_number : List ℕ → Option ℕ
-one_number bs = after (read_number bs) (λ a. ended a.1 a.0)
+-- what is made of what is read
+abbrev pub made : {A B : Type 0} → (A → B) → (List ℕ → Option (A × List ℕ)) → List ℕ → Option (B × List ℕ)
+made make read bs = after (read bs) (λ a. Some (make a.0, a.1))
 
-abbrev pub two_numbers : List ℕ → Option (ℕ × ℕ)
-two_numbers bs = after (read_number bs) (λ a. after (read_number a.1) (λ b. ended b.1 (a.0, b.0)))
+abbrev pub read_ticket : List ℕ → Option ((ℕ × ℕ) × List ℕ)
+read_ticket = both read_number read_number
 
-abbrev pub three_numbers : List ℕ → Option (ℕ × ℕ × ℕ)
-three_numbers bs =
-    after (read_number bs) (λ a. after (read_number a.1) (λ b. after (read_number b.1) (λ c. ended c.1 (a.0, b.0, c.0))))
-
-abbrev pub update_in : List ℕ → Option (Call Seats)
-update_in bs =
-    after (read_number bs) (λ a. after (read_number a.1) (λ b. after (read_number b.1) (λ c. after (read_value c.1) (λ v. ended v.1 (Update (a.0, b.0) c.0 v.0)))))
-
--- the call by its letter: b, r, u, c, a, g, t, s or q
-abbrev pub call_by : ℕ → List ℕ → Option (Call Seats)
-call_by letter bs =
-    cond (letter == 98) (after (three_numbers bs) (λ n. Some (Begin n.0 n.1 n.2)))
-    (cond (letter == 114) (after (three_numbers bs) (λ n. Some (Read (n.0, n.1) n.2)))
-    (cond (letter == 117) (update_in bs)
-    (cond (letter == 99) (after (two_numbers bs) (λ n. Some (Commit n)))
-    (cond (letter == 97) (after (two_numbers bs) (λ n. Some (Abort n)))
-    (cond (letter == 103) (after (two_numbers bs) (λ n. Some (Glance n.0 n.1)))
-    (cond (letter == 116) (after (two_numbers bs) (λ n. Some (Tick n.0 n.1)))
-    (cond (letter == 115) (after (one_number bs) (λ n. Some (Settle n)))
-    (cond (letter == 113) (after (one_number bs) (λ n. Some (Standing n)))
+-- the fields of a call by its letter: b, r, u, c, a, g, t, s or q
+abbrev pub read_call : ℕ → List ℕ → Option (Call Seats × List ℕ)
+read_call letter bs =
+    cond (letter == 98) (made (λ n. Begin n.0 n.1.0 n.1.1) (both read_number (both read_number read_number)) bs)
+    (cond (letter == 114) (made (λ n. Read n.0 n.1) (both read_ticket read_number) bs)
+    (cond (letter == 117) (made (λ n. Update n.0 n.1.0 n.1.1) (both read_ticket (both read_number read_value)) bs)
+    (cond (letter == 99) (made Commit read_ticket bs)
+    (cond (letter == 97) (made Abort read_ticket bs)
+    (cond (letter == 103) (made (λ n. Glance n.0 n.1) (both read_number read_number) bs)
+    (cond (letter == 116) (made (λ n. Tick n.0 n.1) (both read_number read_number) bs)
+    (cond (letter == 115) (made Settle read_number bs)
+    (cond (letter == 113) (made Standing read_number bs)
     None))))))))
+
+-- an answer, where nothing follows
+abbrev pub ended : {A : Type 0} → A × List ℕ → Option A
+ended a = cond (length a.1 == 0) (Some a.0) None
 
 -- the call that a line spells, if it spells one
 abbrev pub call_of : List ℕ → Option (Call Seats)
 call_of [] = None
-call_of (letter ∷ bs) = call_by letter bs
+call_of (letter ∷ bs) = after (read_call letter bs) ended
 
 -- what a reader answers and leaves, by what there is to read
 abbrev pub Takes : {A : Type 0} → Option (A × List ℕ) → Option A → List ℕ → Type 0

@@ -1,48 +1,31 @@
 // The fields of a line, each after one blank.
-ghost use Rattle.std.specs.Prelude.{◌≡◌, ◌≤◌, length, if◌then◌else◌, Some, None, MatchOption, ◌==◌};
-ghost use Rattle.std.specs.Str.Parse.{digits_value};
-ghost use Rattle.std.specs.Str.{all_ascii_digits};
-ghost use Rattle.script.specs.Format.{number_in, seats_of, value_in, field, read_number, read_value, Takes};
+ghost use Rattle.std.specs.Prelude.{◌≡◌, length, None, Some, MatchOption, ◌==◌};
+ghost use Rattle.script.specs.Format.{number_in, seats_of, value_in, field, read_number, read_value, read_ticket, Takes};
 
 use crate::piece::length_before;
 use kinds::seats::Seats;
+use ledger::call::Ticket;
+use std::str;
 
 // The most digits of a number.
 const DIGITS: usize = 10;
 
-// What digits write, and nothing where another byte stands among them.
-fn decimal(text: &[u8]) -> Option<u64>
-    requires { length text.now ≤ 10 }
-    ensures { result ≡ (if all_ascii_digits text.now then Some (digits_value 10 text.now) else None) }
-{
-    let mut number = 0;
-    for b in text {
-        if !b.is_ascii_digit() {
-            return None;
-        }
-        number = number * 10 + u64::from(*b - b'0');
-    }
-    Some(number)
-}
-
-// A number: 1 to 10 digits, and at most 4,294,967,295.
+// A number: 1 to 10 digits, and at most 4,294,967,295. `parse` would take a plus sign, and more zeros.
 fn number(text: &[u8]) -> Option<u32>
     ensures { result ≡ number_in text.now }
 {
-    if text.len() == 0 || text.len() > DIGITS {
+    if text.len() > DIGITS || text.first() == Some(&b'+') {
         return None;
     }
-    u32::try_from(decimal(text)?).ok()
+    str::from_utf8(text).ok()?.parse().ok()
 }
 
 // The seats of a value from -32,768 to 32,767.
 fn seats_of(value: i64) -> Option<Seats>
     ensures { result ≡ seats_of value }
 {
-    match i16::try_from(value) {
-        Ok(value) => Some(Seats::new(value)),
-        Err(_) => None,
-    }
+    let value = i16::try_from(value).ok()?;
+    Some(Seats::from(value))
 }
 
 // A value: a number, perhaps behind a minus sign, that seats may have.
@@ -69,9 +52,9 @@ impl<'a> Fields<'a> {
         let [b' ', rest @ ..] = self.rest else {
             return None;
         };
-        let end = length_before(rest, b' ');
-        self.rest = &rest[end..];
-        Some(&rest[0..end])
+        let (text, rest) = rest.split_at(length_before(rest, b' '));
+        self.rest = rest;
+        Some(text)
     }
 
     pub(crate) fn number(&mut self) -> Option<u32>
@@ -84,6 +67,14 @@ impl<'a> Fields<'a> {
         ensures { Takes (read_value self.old.rest.now) result self.new.rest.now }
     {
         seats(self.next()?)
+    }
+
+    pub(crate) fn ticket(&mut self) -> Option<Ticket>
+        ensures { Takes (read_ticket self.old.rest.now) result self.new.rest.now }
+    {
+        let record = self.number()?;
+        let creation = self.number()?;
+        Some((record, creation))
     }
 
     // Whether the line ends here.

@@ -1,42 +1,20 @@
-ghost use Rattle.std.specs.Prelude.{◌≡◌, ℕ, ◌+◌, ◌*◌, ◌^◌, ◌<◌, ◌≤◌, MatchOption};
+ghost use Rattle.std.specs.Prelude.{◌≡◌, ◌+◌, ◌*◌, ◌↔◌, Some, IsSome, IfSome};
+ghost use Rattle.kinds.specs.Ranges.{InRange};
 ghost use Rattle.kinds.specs.Forms.{place_form, place_parse};
+ghost use Rattle.kinds.specs.Words.{place_words};
 ghost use Rattle.kinds.specs.Back.{place_back, place_only, place_bounded, place_attained};
 
 use crate::kind::Kind;
-use crate::place::{Classroom, Place, Teacher};
+use crate::place::{Numbered, Place};
+use std::fmt;
 
-impl Teacher {
-    // The teacher of a number in range.
-    fn numbered(number: u16) -> Self
-        requires { (1 ≤ number) × (number ≤ 9999) }
-        ensures { result.number ≡ number }
-    {
-        Teacher { number }
-    }
-
+impl<const MOST: u16> Numbered<MOST> {
     pub fn new(number: u16) -> Option<Self>
-        ensures { MatchOption result (((1 ≤ number) × (number ≤ 9999)) → ⊥) (λ t. t.number ≡ number) }
+        ensures valid { IsSome result ↔ InRange MOST number }
+        ensures value { IfSome result (λ n. n.number ≡ number) }
     {
-        if number >= 1 && number <= 9999 {
-            Some(Teacher::numbered(number))
-        } else {
-            None
-        }
-    }
-
-    pub fn number(&self) -> u16
-        ensures { result ≡ self.now.number }
-    {
-        self.number
-    }
-}
-
-impl Classroom {
-    pub fn new(number: u16) -> Option<Self>
-        ensures { MatchOption result (((1 ≤ number) × (number ≤ 999)) → ⊥) (λ t. t.number ≡ number) }
-    {
-        if number >= 1 && number <= 999 {
-            Some(Classroom { number })
+        if number >= 1 && number <= MOST {
+            Some(Numbered { number })
         } else {
             None
         }
@@ -50,12 +28,12 @@ impl Classroom {
 }
 
 impl Place {
-    // The place of a teacher from 1 to 9,999 in a classroom from 1 to 999.
     pub fn held(teacher: u16, classroom: u16) -> Option<Self>
-        ensures { MatchOption result (((1 ≤ teacher) × (teacher ≤ 9999) × (1 ≤ classroom) × (classroom ≤ 999)) → ⊥) (λ p. place_form p ≡ teacher * 1000 + classroom) }
+        ensures valid { IsSome result ↔ InRange 9999 teacher × InRange 999 classroom }
+        ensures value { IfSome result (λ p. place_form p ≡ teacher * 1000 + classroom) }
     {
-        let teacher = Teacher::new(teacher)?;
-        let classroom = Classroom::new(classroom)?;
+        let teacher = Numbered::new(teacher)?;
+        let classroom = Numbered::new(classroom)?;
         Some(Place::Held { teacher, classroom })
     }
 }
@@ -63,11 +41,11 @@ impl Place {
 impl Kind for Place {
     const GREATEST: u64 = 9_999_999;
 
+    ghost GREATEST = { 9999999 };
+
     ghost form = { place_form };
 
     ghost parse = { place_parse };
-
-    ghost greatest = { 9999999 };
 
     ghost reads_back = { place_back };
 
@@ -77,15 +55,12 @@ impl Kind for Place {
 
     ghost attained = { place_attained };
 
-    fn greatest_form() -> u64 {
-        Self::GREATEST
-    }
-
     fn to_form(&self) -> u64 {
         match self {
             Place::Vacant => 0,
-            Place::Held { teacher, classroom } => teacher.number as u64 * 1000
-                + classroom.number as u64,
+            Place::Held { teacher, classroom } => {
+                u64::from(teacher.number) * 1000 + u64::from(classroom.number)
+            }
         }
     }
 
@@ -93,19 +68,23 @@ impl Kind for Place {
         if number == 0 {
             return Some(Place::Vacant);
         }
-        if number < 1000 || number > Self::GREATEST {
-            return None;
+        let teacher = u16::try_from(number / 1000).ok()?;
+        let classroom = u16::try_from(number % 1000).ok()?;
+        Place::held(teacher, classroom)
+    }
+}
+
+impl fmt::Display for Place {
+    ghost output = { λ p. Some (place_words p) };
+
+    fn fmt<W: fmt::Write>(&self, f: &mut fmt::Formatter<W>) -> fmt::Result {
+        match self {
+            Place::Vacant => write!(f, "vacant"),
+            Place::Held { teacher, classroom } => {
+                let teacher = teacher.number;
+                let classroom = classroom.number;
+                write!(f, "teacher {teacher} in classroom {classroom}")
+            }
         }
-        let teacher = Teacher::numbered((number / 1000) as u16);
-        let classroom = number % 1000;
-        if classroom == 0 {
-            return None;
-        }
-        Some(Place::Held {
-            teacher,
-            classroom: Classroom {
-                number: classroom as u16,
-            },
-        })
     }
 }

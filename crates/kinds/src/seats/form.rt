@@ -1,17 +1,20 @@
+ghost use Rattle.std.specs.Prelude.{Some};
 ghost use Rattle.kinds.specs.Forms.{seats_form, seats_parse};
+ghost use Rattle.kinds.specs.Words.{seats_words};
 ghost use Rattle.kinds.specs.Back.{seats_back, seats_only, seats_bounded, seats_attained};
 
 use crate::kind::Kind;
 use crate::seats::Seats;
+use std::fmt;
 
 impl Kind for Seats {
     const GREATEST: u64 = 65_535;
 
+    ghost GREATEST = { 65535 };
+
     ghost form = { λ s. seats_form s.value };
 
     ghost parse = { seats_parse };
-
-    ghost greatest = { 65535 };
 
     ghost reads_back = { seats_back };
 
@@ -21,29 +24,20 @@ impl Kind for Seats {
 
     ghost attained = { seats_attained };
 
-    fn greatest_form() -> u64 {
-        Self::GREATEST
-    }
-
     fn to_form(&self) -> u64 {
-        if self.value >= 0 {
-            self.value as u64
-        } else {
-            (65536 + self.value as i64) as u64
-        }
+        u64::from(self.value.cast_unsigned())
     }
 
     fn from_form(number: u64) -> Option<Self> {
-        if number < 32768 {
-            Some(Seats {
-                value: number as i16,
-            })
-        } else if number <= Self::GREATEST {
-            Some(Seats {
-                value: (number as i64 - 65536) as i16,
-            })
-        } else {
-            None
-        }
+        let value = u16::try_from(number).ok()?.cast_signed();
+        Some(Seats { value })
+    }
+}
+
+impl fmt::Display for Seats {
+    ghost output = { λ s. Some (seats_words s.value) };
+
+    fn fmt<W: fmt::Write>(&self, f: &mut fmt::Formatter<W>) -> fmt::Result {
+        write!(f, "{} free seats", self.value)
     }
 }

@@ -1,26 +1,25 @@
-use Rattle.std.proofs.Common.{◌≡◌, ℕ, ◌+◌, ◌-◌, List, ◌++◌, length, take, drop, vec_items, sym, ap, ◌∙◌, subst, rules}
-use native.Mathlib.Nat.{sub-zero}
-use Rattle.std.specs.List.{prefix_len}
-use Rattle.std.proofs.lemmas.List.{take_rest}
-use Rattle.script.specs.Format.{differs}
+use Rattle.std.proofs.Common.{◌≡◌, ◌++◌, sym, subst, rules}
+use Rattle.std.specs.String.{string_bytes}
 use Rattle.script.specs.Printed.{printed}
-use Rattle.playing.specs.Turns.{Takes}
-use Rattle.playing.proofs.Runs.{Goes, goes_more, goes_all}
+use Rattle.playing.proofs.Runs.{Goes, goes_none, goes_more, goes_all}
 use Rattle.playing.proofs.turn.run.Goals as goal
 
-pub loop-from-preserved : goal.loop-from-preserved
-loop-from-preserved g c =
+pub loop-line-init : goal.loop-line-init
+loop-line-init g c =
+    let register = c.args.register.now in
     let script = c.args.script.now in
-    let from = c.loop-from.from in
-    let n = c.length_before-end.result in
-    let rest = take_rest script from in
-    let out : vec_items c.print.new.output ≡ vec_items c.loop-from.output ++ printed c.answer.result = search rules in
-    let line : take (n - 0) (take (length script - from) (drop from script)) ≡ take n (drop from script) = simp (rest, sub-zero) in
-    subst (λ (o : List ℕ). Goes g.S.Store.means g.S.Store.whole c.args.register.now script (from + (n + 1)) o c.answer.new.register) (sym out)
-    (goes_more g.S.Store.means g.S.Store.whole c.args.register.now c.loop-from.register c.answer.new.register script from n
-    (vec_items c.loop-from.output) c.answer.result c.loop-from.invariant c.loop-from-test.true
-    (c.length_before-end.ensures.value ∙ ap (prefix_len (differs 10)) rest)
-    (subst (λ (l : List ℕ). Takes g.S.Store.means g.S.Store.whole c.loop-from.register l c.answer.result c.answer.new.register) line c.answer.ensures))
+    let rest : c.into_iter-line-iterator.result.rest.now ≡ script = search rules in
+    subst (λ l. Goes g.S.Store.means register script l (string_bytes c.new-output.result) register) (sym rest)
+    (subst (λ o. Goes g.S.Store.means register script script o register) (sym c.new-output.ensures.bytes) (goes_none g.S.Store.means register script))
+
+pub loop-line-preserved : goal.loop-line-preserved
+loop-line-preserved g c =
+    let register = c.args.register.now in
+    let script = c.args.script.now in
+    let out : string_bytes c.write_line.new.text ≡ string_bytes c.loop-line.output ++ printed c.answer.result = search rules in
+    subst (λ o. Goes g.S.Store.means register script c.next.new.self.rest.now o c.answer.new.register) (sym out)
+    (goes_more g.S.Store.means register c.loop-line.register c.answer.new.register script _ c.in-Some.line.now _ _ c.answer.result
+    c.loop-line.invariant c.in-Some.ensures.steps c.answer.ensures)
 
 pub returns : goal.returns
-returns g c = goes_all g.S.Store.means g.S.Store.whole c.args.register.now _ c.args.script.now c.loop-from.from _ c.loop-from.invariant c.loop-from-test.false
+returns g c = goes_all g.S.Store.means c.args.register.now c.loop-line.register c.args.script.now _ _ c.loop-line.invariant c.in-None.ensures.steps

@@ -1,9 +1,6 @@
-use Rattle.std.proofs.Common.{◌-◌, length, vec_items}
+use Rattle.std.specs.String.{string_bytes}
 use Rattle.playing.proofs.Runs.{Goes}
 use Rattle.playing.proofs.turn.run.Given as goal
 
-abbrev pub invariant-loop-from : goal.invariant-loop-from
-invariant-loop-from g l = Goes g.S.Store.means g.S.Store.whole l.initial.register l.script l.from (vec_items l.output) l.register
-
-abbrev pub decreases-loop-from : goal.decreases-loop-from
-decreases-loop-from g l = length l.script - l.from
+abbrev pub invariant-loop-line : goal.invariant-loop-line
+invariant-loop-line g l = Goes g.S.Store.means l.initial.register l.script l.line-iterator.rest.now (string_bytes l.output) l.register

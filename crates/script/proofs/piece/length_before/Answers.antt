@@ -1,16 +1,17 @@
-use Rattle.std.proofs.Common.{get_or, arith}
-use Rattle.std.proofs.lemmas.List.Sums.{prefix_len-drop_yes, prefix_len-drop_no, prefix_len-drop_all}
-use Rattle.std.proofs.lemmas.Bool.{eq-eqb, ne_eqb, not_from_true, not_from_false}
+use Rattle.std.proofs.Common.{◌≡◌, ℕ, ◌≤◌, eqb, ltb, length, cond, Some, None, Option, refl, ap, ◌∙◌, tests, rules, arith}
+use Rattle.std.specs.Option.{unwrap_or}
+use Rattle.std.proofs.lemmas.Bool.{cond_both, ltb-false}
+use Rattle.std.proofs.lemmas.Iterator.{YieldsList-from_slice}
+use Rattle.std.proofs.lemmas.Iterator.Search.{position_from_yields_List}
+use Rattle.std.proofs.lemmas.List.Sums.{prefix_len-le-length}
 use Rattle.script.specs.Format.{differs}
 use Rattle.script.proofs.piece.length_before.Goals as goal
 
-pub returns-then-b-separator : goal.returns-then-b-separator
-returns-then-b-separator c =
-    record { within = omega arith; value = omega (arith, prefix_len-drop_no (differs c.args.separator) c.args.bytes.now c.loop-i.i 0 (omega arith) (not_from_true _ (eq-eqb (get_or c.args.bytes.now c.loop-i.i 0) c.args.separator (omega arith)))) }
+found_or : (n len : ℕ) → n ≤ len → unwrap_or (cond (ltb n len) (Some n) None) len ≡ n
+found_or n len within = cond_both (ltb n len) (Some n) None (λ (o : Option ℕ). unwrap_or o len ≡ n) (λ _. refl) (λ past. omega (arith, ltb-false n len past))
 
-pub loop-i-preserved : goal.loop-i-preserved
-loop-i-preserved c =
-    omega (arith, prefix_len-drop_yes (differs c.args.separator) c.args.bytes.now c.loop-i.i 0 (omega arith) (not_from_false _ (ne_eqb (get_or c.args.bytes.now c.loop-i.i 0) c.args.separator c.if-b-separator.false)))
-
-pub returns : goal.returns
-returns c = record { within = omega arith; value = omega (arith, prefix_len-drop_all (differs c.args.separator) c.args.bytes.now c.loop-i.i (omega arith)) }
+pub returns-clause-value : goal.returns-clause-value
+returns-clause-value c =
+    let bytes = c.args.bytes.now in
+    let found = position_from_yields_List (λ b. eqb b c.args.separator) _ _ c.position.result c.position.ensures.ran (YieldsList-from_slice bytes cc) (λ x b q k. search (rules, tests)) in
+    c.unwrap_or.ensures ∙ ap (λ o. unwrap_or o (length bytes)) found ∙ found_or _ (length bytes) (prefix_len-le-length (differs c.args.separator) bytes)
