@@ -66,7 +66,7 @@ impl<'a> Table<'a> {
     }
 }
 
-// A store of the histories that the bytes lay out. It has no objects where they are not lawful.
+// A store of the histories that the bytes lay out. It has no objects where they are not lawful: the count says so.
 #[derive(Drop)]
 pub struct Chained<'a> {
     pub(crate) table: Table<'a>,

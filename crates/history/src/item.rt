@@ -15,7 +15,8 @@ pub const LAST_MARK: u8 = 64;
 pub const BOTTOM: u8 = 0;
 
 // One entry of an object's history: from pseudo-time start to end the object has this number.
-// Mark 0 is a version; marks 1 to 64 are a token of that commit record.
+// Mark 0 is a version; marks 1 to 64 are a token of that commit record. It is a number since it is stored as one,
+// and a store refuses a greater one.
 #[derive(Clone, Copy, PartialEq, Eq, Default, Debug)]
 pub struct Item {
     pub start: u64,
@@ -113,6 +114,7 @@ pub enum Cause {
 }
 
 impl Cause {
+    // The number of the cause, for callers who see no more.
     pub fn number(self) -> u8
         ensures { result ≡ cause_number self }
     {

@@ -20,6 +20,7 @@ fn is_item_before(item: Item, clock: u32) -> bool
 fn is_object_before<S: Store>(store: &S, object: u32, clock: u32) -> bool
     ensures { object < objects_of (S.Store.means store.now) → result ≡ fit_chain clock (chain_of (S.Store.means store.now) object) }
 {
+    // A store answers by place.
     for place in 0..PLACES {
         let Ok(next) = store.at(object, place) else {
             return false;

@@ -32,6 +32,7 @@ impl<S: Store, V: Kind + Drop> Register<S, V> {
         ensures { Meets (view S.Store.means self.old) own object time result (view S.Store.means self.new) }
     {
         let mut item = found;
+        // Each turn changes the store that is searched.
         while !is_plain(own, item) {
             match self.settle_item(object, item)? {
                 Standing::Open => return Err(Unread::Wait(u32::from(item.mark))),

@@ -50,6 +50,7 @@ impl<S: Store, V: Kind + Drop> Register<S, V> {
             sealed: 0,
             dropped: 0,
         };
+        // Each turn changes the store that is walked.
         while let Some(item) = self.store.at(object, walk.place)? {
             let fate = self.settle_item(object, item)?;
             walk = walk.past(fate);

@@ -1,16 +1,8 @@
 use Rattle.std.proofs.Common.{◌≡◌, ◌++◌, sym, subst, rules}
 use Rattle.std.specs.String.{string_bytes}
 use Rattle.script.specs.Printed.{printed}
-use Rattle.playing.proofs.Runs.{Goes, goes_none, goes_more, goes_all}
+use Rattle.playing.proofs.Runs.{Goes, goes_more, goes_all}
 use Rattle.playing.proofs.turn.run.Goals as goal
-
-pub loop-line-init : goal.loop-line-init
-loop-line-init g c =
-    let register = c.args.register.now in
-    let script = c.args.script.now in
-    let rest : c.into_iter-line-iterator.result.rest.now ≡ script = search rules in
-    subst (λ l. Goes g.S.Store.means register script l (string_bytes c.new-output.result) register) (sym rest)
-    (subst (λ o. Goes g.S.Store.means register script script o register) (sym c.new-output.ensures.bytes) (goes_none g.S.Store.means register script))
 
 pub loop-line-preserved : goal.loop-line-preserved
 loop-line-preserved g c =

@@ -3,19 +3,13 @@ use Rattle.history.specs.Chain.{is_version}
 use Rattle.register.specs.Calls.{is_own}
 use Rattle.register.specs.Settling.{Settles}
 use Rattle.register.specs.View.{view}
-use Rattle.register.proofs.Meets.{looked_held, looked_plain, looked_open, looked_committed, looked_less, looked_again}
+use Rattle.register.proofs.Meets.{looked_held, looked_plain, looked_committed, looked_less, looked_again}
 use Rattle.register.proofs.register.Register.meet.Goals as goal
 
 pub settle_item-requires : goal.settle_item-requires
 settle_item-requires g c =
     let token : (is_version c.loop-own.item || is_own c.args.own c.loop-own.item) ≡ false = cc in
     λ _. looked_held _ _ _ _ _ _ c.loop-own.invariant (g.met.S.Store.sound c.loop-own.self.store) token
-
-pub returns-in-Open : goal.returns-in-Open
-returns-in-Open g c =
-    let token : (is_version c.loop-own.item || is_own c.args.own c.loop-own.item) ≡ false = cc in
-    let h = subst (λ w. Settles (view g.S.Store.means c.loop-own.self) c.args.object c.loop-own.item w (view g.S.Store.means c.settle_item.new.self)) c.in-Open.is c.in_ok-settle_item.ensures in
-    rw c.from.ensures (looked_open _ _ _ _ _ _ c.loop-own.invariant _ token h)
 
 pub returns-in-Committed : goal.returns-in-Committed
 returns-in-Committed g c =

@@ -1,4 +1,4 @@
-use Rattle.std.proofs.Common.{◌≡◌, Ok, Err, refl, subst}
+use Rattle.std.proofs.Common.{◌≡◌, Err, refl, subst}
 use Rattle.history.specs.Meaning.{Outcome, answered}
 use Rattle.history.specs.Meaning.Op.{Put}
 use Rattle.std.proofs.lemmas.Result.{err_from_is_err_and}
@@ -7,21 +7,8 @@ use Rattle.ledger.specs.Checks.{action_check, time_of}
 use Rattle.ledger.proofs.Checks.{checked_ok, checked_err}
 use Rattle.register.specs.View.{view}
 use Rattle.register.proofs.Checks.{turned_down}
-use Rattle.register.proofs.Stores.{update_done, update_refused}
+use Rattle.register.proofs.Stores.{update_refused}
 use Rattle.register.proofs.register.Register.update.Goals as goal
-
-pub returns-in-Ok : goal.returns-in-Ok
-returns-in-Ok g c =
-    let s = view g.S.Store.means c.args.self.now in
-    let timed = checked_ok _ _ _ c.in_ok-time.ensures in
-    let at = timed.1 in
-    let e = c.in-Ok.ensures in
-    let is : Put c.in_ok-time.time c.args.ticket.0 c.to_form.result ≡ Put (time_of s.clocks c.args.ticket.1) c.args.ticket.0 (g.V.Kind.form c.args.value) = cc in
-    update_done g.V.Kind.form g.V.Kind.parse s c.args.ticket c.args.object c.args.value
-    _ (checked_ok _ _ _ c.in_ok-check_fit.ensures).0 timed.0
-    (subst (λ op. Outcome s.store c.args.object op (g.S.Store.means c.put.new.self)) is e.after) refl
-    (subst (λ op. Ok tt ≡ answered s.store c.args.object op tt) is e.answer)
-    c.charge.ensures.records c.charge.ensures.clocks
 
 pub returns : goal.returns
 returns g c =
