@@ -1,5 +1,5 @@
 // A store over bytes.
-ghost use Rattle.std.specs.Prelude.{◌≡◌, true, false, MatchResult};
+ghost use Rattle.std.specs.Prelude.{◌≡◌, true, false, codes, Some, MatchResult};
 ghost use Rattle.layout.specs.Layout.{lawful};
 ghost use Rattle.chained.specs.Means.{meaning, Reopens};
 
@@ -14,6 +14,8 @@ use std::fmt;
 pub struct Unlawful;
 
 impl fmt::Display for Unlawful {
+    ghost output = { λ _. Some (codes "the bytes are not a lawful table") };
+
     fn fmt<W: fmt::Write>(&self, f: &mut fmt::Formatter<W>) -> fmt::Result {
         f.write_str("the bytes are not a lawful table")
     }

@@ -22,6 +22,10 @@ given_some : {A : Type 0} (b : Bool) (f : b ≡ true → Option A) (k : Option A
 given_some true f k e h = h refl
 given_some false f k e h = cc
 
+given_none : {A : Type 0} (b : Bool) (f : b ≡ true → Option A) → b ≡ false → given_that b f ≡ None
+given_none true f e = cc
+given_none false f e = refl
+
 given_is : {A : Type 0} (b : Bool) (f : b ≡ true → Option A) (x : A) → given_that b f ≡ Some x → (q : b ≡ true) × (f q ≡ Some x)
 given_is true f x e = (refl, e)
 given_is false f x e = absurd (none_some x e)
@@ -70,6 +74,9 @@ seats_bounded v = (value_form v.value v.fits.0 v.fits.1).0
 
 pub seats_attained : is_some (seats_parse 65535) ≡ true
 seats_attained = refl
+
+pub seats_none : (n : ℕ) → 65535 < n → seats_parse n ≡ None
+seats_none n lt = given_none (nat_le n 65535) _ (lt-leb n 65535 lt)
 
 pub seats_read : (n : ℕ) (v : Seats) → seats_form v.value ≡ n → Some v ≡ seats_parse n
 seats_read n v e = sym (seats_back v) ∙ ap seats_parse e
@@ -126,11 +133,11 @@ place_bounded (Held t c) = let th = t.in_range.1 in let ch = c.in_range.1 in ome
 pub place_attained : is_some (place_parse 9999999) ≡ true
 place_attained = refl
 
-place_read : (n : ℕ) (v : Place) → place_form v ≡ n → Some v ≡ place_parse n
+pub place_read : (n : ℕ) (v : Place) → place_form v ≡ n → Some v ≡ place_parse n
 place_read n v e = sym (place_back v) ∙ ap place_parse e
 
 -- a number that has no teacher, or no classroom
-place_none : (n : ℕ) → (n ≢ 0) → ((v : Place) → place_form v ≢ n) → place_parse n ≡ None
+pub place_none : (n : ℕ) → (n ≢ 0) → ((v : Place) → place_form v ≢ n) → place_parse n ≡ None
 place_none n nz absent = go (place_parse n) refl
   where
     go : (k : Option Place) → place_parse n ≡ k → k ≡ None

@@ -1,5 +1,5 @@
 // Bytes at an offset of a slice of bytes. Fields hold their numbers with the highest byte first.
-ghost use Rattle.std.specs.Prelude.{◌≡◌, ℕ, ◌+◌, ◌<◌, length, nat_le, slice_index};
+ghost use Rattle.std.specs.Prelude.{◌≡◌, ℕ, ◌+◌, ◌<◌, length, nat_le, slice_index, IfSome};
 ghost use Rattle.layout.specs.Field.{put_bytes};
 
 use std::array;
@@ -22,11 +22,21 @@ pub(crate) fn byte(bytes: &[u8], at: usize, i: usize) -> u8
     }
 }
 
-// The N bytes from `at` on.
+// The N bytes from `at` on, where they lie in the bytes.
+fn chunk_at<const N: usize>(bytes: &[u8], at: usize) -> Option<&[u8; N]>
+    ensures { IfSome result (λ part. (i : ℕ) → i < N → slice_index part.now i ≡ slice_index bytes.now (at + i)) }
+{
+    bytes.get(at..)?.first_chunk()
+}
+
+// The N bytes from `at` on, taken at once where they lie in the bytes.
 pub(crate) fn bytes_at<const N: usize>(bytes: &[u8], at: usize) -> [u8; N]
     ensures { (i : ℕ) → i < N → slice_index result i ≡ slice_index bytes.now (at + i) }
 {
-    array::from_fn(|i| byte(bytes, at, i))
+    match chunk_at(bytes, at) {
+        Some(part) => *part,
+        None => array::from_fn(|i| byte(bytes, at, i)),
+    }
 }
 
 // Writes the part over the bytes from `at` on, or nothing where it does not fit.

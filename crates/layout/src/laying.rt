@@ -1,5 +1,5 @@
 // Bytes laid out anew.
-ghost use Rattle.std.specs.Prelude.{◌≡◌, ◌+◌, ◌-◌, ◌≤◌, true, ◌++◌, map, length, is_ok, if◌then◌else◌};
+ghost use Rattle.std.specs.Prelude.{◌≡◌, ◌+◌, ◌-◌, ◌≤◌, true, ◌++◌, map, length, codes, Some, is_ok, if◌then◌else◌};
 ghost use Rattle.std.specs.List.{range_with_len};
 ghost use Rattle.layout.specs.Laid.{fits, zeros, after, head, with_rows, laid_out, Laid};
 
@@ -14,6 +14,8 @@ use std::fmt;
 pub struct Unfit;
 
 impl fmt::Display for Unfit {
+    ghost output = { λ _. Some (codes "the objects, records and numbers do not fit the bytes") };
+
     fn fmt<W: fmt::Write>(&self, f: &mut fmt::Formatter<W>) -> fmt::Result {
         f.write_str("the objects, records and numbers do not fit the bytes")
     }

@@ -21,13 +21,14 @@ pub fn play(heap: Global, script: &[u8]) -> Result<Vec<u8>, AllocError>
     let _ = lay_out(&mut bytes, 4, 20, &[12, 12, 12, 12]);
     let mut register = open(Encache::over(Chained::new(&mut bytes)), 1);
     serial_law::<Seats>();
-    let output = run(heap, &mut register, script)?;
-    Ok(output.into_bytes())
+    run(heap, &mut register, script)
 }
 
 #[cfg(test)]
 mod tests {
     use super::*;
+    use ledger::call::Answer;
+    use script::writing::{print, write_line};
     use std::test::Fail;
 
     #[test]
@@ -41,6 +42,21 @@ mod tests {
     fn a_question_prints_its_answer(rt: HostRuntime) -> Result<(), Fail> {
         let output = play(rt.alloc(), b"q 1\n")?;
         assert!(rt; output.as_slice() == b"q unused 0\n".as_slice());
+        Ok(())
+    }
+
+    // Here, since a crate with tests is proved twice.
+    #[test]
+    fn an_answer_goes_behind_what_is_there(rt: HostRuntime) -> Result<(), Fail> {
+        let answer: Answer<Seats> = Answer::Settled((1, 4294967295));
+        let mut text = String::new(rt.alloc());
+        write_line(&mut text, &answer)?;
+        write_line(&mut text, &answer)?;
+        assert!(rt; text.as_str() == "s 1 4294967295\ns 1 4294967295\n");
+        let mut output = Vec::new(rt.alloc());
+        print(&mut output, &answer)?;
+        print(&mut output, &answer)?;
+        assert!(rt; output.as_slice() == text.as_bytes());
         Ok(())
     }
 }

@@ -1,6 +1,5 @@
 // The lines of a script, one after another.
 ghost use Rattle.std.specs.Prelude.{IfOk};
-ghost use Rattle.std.specs.String.{string_bytes};
 ghost use Rattle.script.specs.Lines.{lines};
 ghost use Rattle.playing.specs.Turns.{Takes, Runs};
 
@@ -11,7 +10,7 @@ use ledger::refusal::Refusal;
 use register::register::Register;
 use script::piece::Lines;
 use script::reading::call_of;
-use script::writing::write_line;
+use script::writing::print;
 use serial::perform;
 use std::alloc::{AllocError, Global};
 
@@ -30,12 +29,12 @@ pub(crate) fn run<S: Store>(
     heap: Global,
     register: &mut Register<S, Seats>,
     script: &[u8],
-) -> Result<String, AllocError>
-    ensures { IfOk result (λ v. Runs S.Store.means register.old (lines script.now) (string_bytes v) register.new) }
+) -> Result<Vec<u8>, AllocError>
+    ensures { IfOk result (λ v. Runs S.Store.means register.old (lines script.now) v.items register.new) }
 {
-    let mut output = String::new(heap);
+    let mut output = Vec::new(heap);
     for line in Lines::of(script) {
-        write_line(&mut output, &answer(register, line))?;
+        print(&mut output, &answer(register, line))?;
     }
     Ok(output)
 }

@@ -1,19 +1,38 @@
--- Texts that are numbers.
-use Rattle.std.proofs.Common.{◌≡◌, ℕ, ◌≤◌, ◌≢◌, true, ◌&&◌, leb, List, [], ◌∷◌, length, get_or, Some, None, Ok, Err, Option, Result, sym, refl, ap, ◌∙◌, subst, arith}
-use Rattle.std.specs.Result.{result_ok}
-use Rattle.std.specs.Str.{all_ascii_digits, IsUtf8}
-use Rattle.std.specs.Str.Parse.{digits_value, ParsesUnsigned}
-use Rattle.std.specs.Char.{is_ascii_digit}
-use Rattle.std.proofs.lemmas.Fmt.{IsAscii-from_digits}
-use Rattle.std.proofs.lemmas.Str.{IsUtf8-from_ascii}
-use Rattle.std.proofs.lemmas.Str.Parse.{IsNumeralModel, numerals_by_value, tells_all_ascii_digits, parse_plain}
+-- Digits, and the numbers that texts write.
+use Rattle.std.proofs.Common.{◌≡◌, ℕ, ◌+◌, ◌^◌, ◌<◌, ◌≤◌, true, ◌&&◌, leb, List, [], ◌∷◌, length, get_or, take, drop, Some, sym, ap, ◌∙◌, subst, arith}
+use native.Mathlib.Nat.{pow-le-pow_right}
+use Rattle.std.specs.Str.{all_ascii_digits}
+use Rattle.std.specs.Str.Parse.{digits_value, AllDigits}
+use Rattle.std.specs.Char.{is_ascii_digit, digit_value}
+use Rattle.std.proofs.lemmas.Str.Parse.{IsNumeralModel, numerals_by_value, tells_all_ascii_digits}
+use Rattle.std.proofs.lemmas.Int.Digits.{digits_value-lt, digits_more}
+use Rattle.std.proofs.lemmas.List.{at_drop_more, length-take-le}
 use Rattle.std.proofs.lemmas.Bool.{and_parts, and_from, leb-true, le-leb, cond-true}
+use Rattle.std.proofs.lemmas.Bool.Decides.{nat_tests}
 use Rattle.script.proofs.Options.{cond_is}
 use Rattle.script.specs.Format.{number_in}
 use Rattle.script.specs.Spelling.{Number}
 
 pub digit_range : (c : ℕ) → is_ascii_digit c ≡ true → (48 ≤ c) × (c ≤ 57)
 digit_range c e = let p = and_parts (leb 48 c) (leb c 57) e in (leb-true 48 c p.0, leb-true c 57 p.1)
+
+-- a byte is a digit where its value is below ten
+digit_below : (c : ℕ) → digit_value c < 10 → is_ascii_digit c ≡ true
+digit_below c lt = grind (arith, nat_tests)
+
+module _ (text : List ℕ) (i : ℕ) (inside : i < length text) where
+  -- a front of at most nine digits is below ten to the ninth
+  pub front_small : length text ≤ 10 → AllDigits 10 (take i text) → digits_value 10 (take i text) < 10 ^ 9
+  front_small short d =
+      let n = length-take-le i text (omega arith) in
+      omega (arith, digits_value-lt 10 (take i text) d, ap (λ k. 10 ^ k) n, pow-le-pow_right {n = 10} (omega arith) {i = i} {j = 9} (omega arith))
+
+  module _ (digit : digit_value (get_or text i 0) < 10) where
+    pub digits_digit : AllDigits 10 (take i text) → AllDigits 10 (take (i + 1) text)
+    digits_digit d = digits_more 10 text i inside d digit
+
+    pub all_digit : all_ascii_digits (drop i text) ≡ all_ascii_digits (drop (i + 1) text)
+    all_digit = at_drop_more all_ascii_digits text i 0 inside ∙ ap (λ b. b && all_ascii_digits (drop (i + 1) text)) (digit_below (get_or text i 0) digit)
 
 pub digits_model : IsNumeralModel (λ ds. all_ascii_digits ds ≡ true) (digits_value 10)
 digits_model = numerals_by_value _ tells_all_ascii_digits
@@ -37,24 +56,6 @@ text_number t n h =
     cond-true _ _ _ (and_from _ _ (le-leb 1 (length t) h.some) (and_from _ _ (le-leb (length t) 10 h.few) (and_from _ _ h.digits (le-leb (digits_value 10 t) 4294967295 (subst (λ k. k ≤ 4294967295) (sym h.writes) h.bounded)))))
     ∙ ap Some h.writes
 
-pub no_number : (t : List ℕ) → ((n : ℕ) → Number t n → ⊥) → None ≡ number_in t
-no_number t none = go (number_in t) refl
-  where
-    go : (o : Option ℕ) → number_in t ≡ o → None ≡ o
-    go None e = refl
-    go (Some n) e = absurd (none n (number_text t n e))
-
 pub number_digit : (t : List ℕ) (n : ℕ) → Number t n → is_ascii_digit (get_or t 0 0) ≡ true
 number_digit [] n h = let some = h.some in absurd (omega arith)
 number_digit (c ∷ t) n h = (and_parts (is_ascii_digit c) (all_ascii_digits t) h.digits).0
-
-pub number_utf8 : (t : List ℕ) (n : ℕ) → Number t n → IsUtf8 t
-number_utf8 t n h = IsUtf8-from_ascii t (IsAscii-from_digits t (digits_model.to t h.digits))
-
--- what `parse` answers where no sign stands in front
-pub number_parsed : {E : Type 0} (t : List ℕ) (r : Result ℕ E) → length t ≤ 10 → get_or t 0 0 ≢ 43 → ParsesUnsigned 32 10 t r → result_ok r ≡ number_in t
-number_parsed {E} t (Ok n) few unsigned p =
-    let q = parse_plain digits_model {E = E} 32 t (Ok n) p unsigned in
-    let bound = q.0.2 in
-    sym (text_number t n (record { some = q.0.1; few = few; digits = q.0.0; writes = sym q.1; bounded = omega (arith, q.1) }))
-number_parsed t (Err e) few unsigned p = no_number t (λ n h. parse_plain digits_model 32 t (Err e) p unsigned (h.digits, h.some, omega (arith, h.writes, h.bounded)))

@@ -1,23 +1,38 @@
 // The fields of a line, each after one blank.
-ghost use Rattle.std.specs.Prelude.{◌≡◌, length, None, Some, MatchOption, ◌==◌};
+ghost use Rattle.std.specs.Prelude.{◌≡◌, ◌≤◌, length, if◌then◌else◌, None, Some, MatchOption, ◌==◌};
+ghost use Rattle.std.specs.Str.Parse.{digits_value};
+ghost use Rattle.std.specs.Str.{all_ascii_digits};
 ghost use Rattle.script.specs.Format.{number_in, seats_of, value_in, field, read_number, read_value, read_ticket, Takes};
 
 use crate::piece::length_before;
 use kinds::seats::Seats;
 use ledger::call::Ticket;
-use std::str;
 
 // The most digits of a number.
 const DIGITS: usize = 10;
 
-// A number: 1 to 10 digits, and at most 4,294,967,295. `parse` would take a plus sign, and more zeros.
+// What digits write, and nothing where another byte stands among them. `parse` asks for a text that is known to be
+// UTF-8, and is slower.
+fn decimal(text: &[u8]) -> Option<u64>
+    requires { length text.now ≤ 10 }
+    ensures { result ≡ (if all_ascii_digits text.now then Some (digits_value 10 text.now) else None) }
+{
+    let mut number = 0;
+    for byte in text {
+        let digit = char::from(*byte).to_digit(10)?;
+        number = number * 10 + u64::from(digit);
+    }
+    Some(number)
+}
+
+// A number: 1 to 10 digits, and at most 4,294,967,295.
 fn number(text: &[u8]) -> Option<u32>
     ensures { result ≡ number_in text.now }
 {
-    if text.len() > DIGITS || text.first() == Some(&b'+') {
+    if text.is_empty() || text.len() > DIGITS {
         return None;
     }
-    str::from_utf8(text).ok()?.parse().ok()
+    u32::try_from(decimal(text)?).ok()
 }
 
 // The seats of a value from -32,768 to 32,767.

@@ -1,5 +1,4 @@
 use Rattle.std.proofs.Common.{◌≡◌, ◌++◌, sym, subst, rules}
-use Rattle.std.specs.String.{string_bytes}
 use Rattle.script.specs.Printed.{printed}
 use Rattle.playing.proofs.Runs.{Goes, goes_more, goes_all}
 use Rattle.playing.proofs.turn.run.Goals as goal
@@ -8,7 +7,7 @@ pub loop-line-preserved : goal.loop-line-preserved
 loop-line-preserved g c =
     let register = c.args.register.now in
     let script = c.args.script.now in
-    let out : string_bytes c.write_line.new.text ≡ string_bytes c.loop-line.output ++ printed c.answer.result = search rules in
+    let out : c.print.new.output.items ≡ c.loop-line.output.items ++ printed c.answer.result = search rules in
     subst (λ o. Goes g.S.Store.means register script c.next.new.self.rest.now o c.answer.new.register) (sym out)
     (goes_more g.S.Store.means register c.loop-line.register c.answer.new.register script _ c.in-Some.line.now _ _ c.answer.result
     c.loop-line.invariant c.in-Some.ensures.steps c.answer.ensures)

@@ -1,6 +1,5 @@
-use Rattle.std.specs.String.{string_bytes}
 use Rattle.playing.proofs.Runs.{Goes}
 use Rattle.playing.proofs.turn.run.Given as goal
 
 abbrev pub invariant-loop-line : goal.invariant-loop-line
-invariant-loop-line g l = Goes g.S.Store.means l.initial.register l.script l.line-iterator.rest.now (string_bytes l.output) l.register
+invariant-loop-line g l = Goes g.S.Store.means l.initial.register l.script l.line-iterator.rest.now l.output.items l.register
