@@ -1,9 +1,9 @@
 // The line that an answer is printed as.
-ghost use Rattle.std.specs.Prelude.{◌≡◌, ◌++◌, ℕ, List, OnOk};
+ghost use Rattle.std.specs.Prelude.{◌≡◌, ◌<◌, ◌++◌, ℕ, List, decimal, OnOk};
 ghost use Rattle.std.specs.String.{string_bytes};
 ghost use Rattle.script.specs.Printed.{printed, shown};
 
-use itoa::{Buffer, Integer};
+use itoa::Buffer;
 use kinds::seats::Seats;
 use ledger::call::Answer;
 use ledger::record::standing_word;
@@ -15,6 +15,10 @@ trait Output {
 
     fn put(&mut self, text: &str) -> Result<(), AllocError>
         ensures { OnOk result (bytes self.new ≡ bytes self.old ++ text.now) };
+
+    fn put_digit(&mut self, digit: u8) -> Result<(), AllocError>
+        requires { digit < 10 }
+        ensures { OnOk result (bytes self.new ≡ bytes self.old ++ decimal digit) };
 }
 
 impl Output for String {
@@ -22,6 +26,10 @@ impl Output for String {
 
     fn put(&mut self, text: &str) -> Result<(), AllocError> {
         self.push_str(text)
+    }
+
+    fn put_digit(&mut self, digit: u8) -> Result<(), AllocError> {
+        self.push(char::from(b'0' + digit))
     }
 }
 
@@ -31,11 +39,20 @@ impl Output for Vec<u8> {
     fn put(&mut self, text: &str) -> Result<(), AllocError> {
         self.extend_from_slice(text.as_bytes())
     }
+
+    fn put_digit(&mut self, digit: u8) -> Result<(), AllocError> {
+        self.extend_from_slice(&[b'0' + digit])
+    }
 }
 
-fn put_number<O: Output, I: Integer>(output: &mut O, number: I) -> Result<(), AllocError>
-    ensures { OnOk result (O.Output.bytes output.new ≡ O.Output.bytes output.old ++ I.Integer.text number) }
+// Most numbers of an answer have one digit.
+#[inline(always)]
+fn put_number<O: Output>(output: &mut O, number: u32) -> Result<(), AllocError>
+    ensures { OnOk result (O.Output.bytes output.new ≡ O.Output.bytes output.old ++ decimal number) }
 {
+    if number < 10 {
+        return output.put_digit(number as u8);
+    }
     output.put(Buffer::new().format(number))
 }
 
@@ -50,7 +67,7 @@ fn put_answer<O: Output>(output: &mut O, answer: &Answer<Seats>) -> Result<(), A
         }
         Answer::Value(seats) => {
             output.put("= ")?;
-            put_number(output, i16::from(seats))
+            output.put(Buffer::new().format(i16::from(seats)))
         }
         Answer::Wait(record) => {
             output.put("w ")?;
@@ -71,7 +88,7 @@ fn put_answer<O: Output>(output: &mut O, answer: &Answer<Seats>) -> Result<(), A
         }
         Answer::Refused(refusal) => {
             output.put("- ")?;
-            put_number(output, refusal.number())
+            put_number(output, u32::from(refusal.number()))
         }
     }
 }
