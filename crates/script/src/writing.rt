@@ -9,7 +9,7 @@ use ledger::call::Answer;
 use ledger::record::standing_word;
 use std::alloc::AllocError;
 
-// What takes texts, each behind what it has. A line goes there by its pieces: by `Display` it takes up to twice as long.
+// What texts and digits go behind. A line goes there by its pieces: by `Display` it takes up to twice as long.
 trait Output {
     ghost bytes: { Self → List ℕ };
 
@@ -45,7 +45,7 @@ impl Output for Vec<u8> {
     }
 }
 
-// Most numbers of an answer have one digit.
+// A number in decimal. Most have one digit, and that is put without a call.
 #[inline(always)]
 fn put_number<O: Output>(output: &mut O, number: u32) -> Result<(), AllocError>
     ensures { OnOk result (O.Output.bytes output.new ≡ O.Output.bytes output.old ++ decimal number) }
